@@ -1,0 +1,13 @@
+//! The parties of a market and the limits of its numbers.
+
+mod kinds;
+mod letters;
+mod limits;
+
+pub use kinds::Side;
+pub use kinds::Sides;
+pub use letters::side_of;
+pub use limits::beyond_day_ahead;
+pub use limits::beyond_metered;
+pub use limits::beyond_price;
+pub use limits::kept;
