@@ -1,13 +1,13 @@
 -- Lemmas on the first row that holds.
 use mathlib.Core.Path.{_≡_, refl, sym, ap, _∙_, subst}
 use mathlib.Core.Bool.{Bool, true, false, cond}
-use mathlib.Core.List.{List, [], _∷_, _++_}
+use mathlib.Core.List.{List, [], _∷_, _++_, map}
 use mathlib.Core.Logic.{_⊎_, inl, inr}
 use Prim.Native.Nat.{ℕ, zero, suc, _+_, _-_, _≤_, _<_}
 use native.Mathlib.Numerals.{add-one}
 use native.Mathlib.Omega.{arith}
 use Rattle.std.proofs.shelf.Tests.{cases-lt, true≢false}
-use Rattle.std.specs.Options.{orOther}
+use Rattle.std.specs.Options.{orOther, mapped}
 use Rattle.std.specs.declared.option.Option.{Option}
 use Rattle.std.specs.declared.option.Option.the-variants.{Some, None}
 use Rattle.faults.specs.Rows.{first, rowsBelow, Holds, Earliest, Exact}
@@ -17,6 +17,12 @@ pub first-++ : {X : Type 0} (xs ys : List (X × Bool)) → first (xs ++ ys) ≡ 
 first-++ [] ys = refl
 first-++ {X} (x ∷ xs) ys =
     elim (x .1) as (λ b. cond b (Some (x .0)) (first (xs ++ ys)) ≡ orOther (cond b (Some (x .0)) (first xs)) (first ys)) [ true ↦ refl | false ↦ first-++ xs ys ]
+
+-- the first of a table after the faults are named anew
+pub first-map : {X Y : Type 0} (f : X → Y) (rows : List (X × Bool)) → first (map (λ row. (f (row .0), row .1)) rows) ≡ mapped f (first rows)
+first-map f [] = refl
+first-map f ((x , true) ∷ rows) = refl
+first-map f ((x , false) ∷ rows) = first-map f rows
 
 pub below-none : {X : Type 0} (rows : ℕ → List (X × Bool)) → first (rowsBelow rows 0) ≡ None
 unfolding rowsBelow
@@ -45,6 +51,16 @@ below-found rows i n fault h none found = below-stays rows (suc i) n fault (let 
 pub below-step : {X : Type 0} (rows : ℕ → List (X × Bool)) (i : ℕ) → first (rowsBelow rows i) ≡ None → first (rows i) ≡ None → first (rowsBelow rows (i + 1)) ≡ None
 below-step rows i none here = rw add-one (below-more rows i none ∙ here)
 
+-- no row holds
+abbrev pub Clear : {X : Type 0} → List (X × Bool) → Type 0
+Clear [] = Unit {0}
+Clear (row ∷ rows) = (row .1 ≡ false) × Clear rows
+
+pub all-clear : {X : Type 0} (rows : List (X × Bool)) → None ≡ first rows → Clear rows
+all-clear [] e = tt
+all-clear ((f , true) ∷ rows) e = grind arith
+all-clear ((f , false) ∷ rows) e = (refl, all-clear rows e)
+
 -- a row of the table has this fault, whether it holds or not
 abbrev pub Listed : {X : Type 0} → List (X × Bool) → X → Type 0
 Listed [] fault = ⊥
@@ -55,12 +71,12 @@ abbrev pub Ascending : {X : Type 0} → (X → X → Type 0) → List (X × Bool
 Ascending before [] = Unit {0}
 Ascending {X} before (row ∷ rows) = ((g : X) → Listed rows g → before (row .0) g) × Ascending before rows
 
-listed : {X : Type 0} (rows : List (X × Bool)) (fault : X) → Holds rows fault → Listed rows fault
+pub listed : {X : Type 0} (rows : List (X × Bool)) (fault : X) → Holds rows fault → Listed rows fault
 listed [] fault h = h
 listed (row ∷ rows) fault (inl h) = inl (h .0)
 listed (row ∷ rows) fault (inr h) = inr (listed rows fault h)
 
-no-first : {X : Type 0} (rows : List (X × Bool)) → first rows ≡ None → (fault : X) → Holds rows fault → ⊥
+pub no-first : {X : Type 0} (rows : List (X × Bool)) → first rows ≡ None → (fault : X) → Holds rows fault → ⊥
 no-first [] e fault h = h
 no-first ((f , true) ∷ rows) e fault h = grind arith
 no-first ((f , false) ∷ rows) e fault (inl h) = grind arith

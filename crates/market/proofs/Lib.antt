@@ -1,1 +1,1 @@
-mod Naming
+pub mod Naming

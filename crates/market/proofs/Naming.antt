@@ -1,24 +1,28 @@
 -- Lemmas on letters and the sides that they name.
-use mathlib.Core.Path.{_≡_, refl, sym, ap, _∙_}
+use mathlib.Core.Path.{_≡_, refl, sym, ap, _∙_, subst}
+use mathlib.Core.Logic.{_⊎_, inl, inr}
 use mathlib.Core.Bool.{Bool, true, false, cond, _||_, not}
 use mathlib.Core.List.{List, [], _∷_, _++_, map}
-use Prim.Native.Nat.{ℕ, _+_, _<_, _≤_}
+use Prim.Native.Nat.{ℕ, _+_, _*_, _<_, _≤_}
 use native.Mathlib.Omega.{arith}
-use lib.Dec.{eqb, ltb}
+use lib.Dec.{eqb, ltb, lit<}
 use lib.ListN.{length, getD, take, set, length-set}
 use Rattle.std.proofs.shelf.Lists.{take-more, take-more-set, take-all, map-append}
-use Rattle.std.proofs.shelf.Tests.{cond-false}
+use Rattle.std.proofs.shelf.Tests.{cond-false, cond-true, or-left, or-right, lt-ltb}
 use Rattle.std.proofs.shelf.Ways.{tells}
 use Rattle.std.specs.declared.option.Option.{Option}
 use Rattle.std.specs.declared.option.Option.the-variants.{Some, None}
 use Rattle.std.specs.declared.result.Result.the-variants.{Ok, Err}
 use Rattle.faults.specs.declared.causes.MonthFault.{MonthFault}
-use Rattle.faults.specs.declared.causes.MonthFault.the-variants.{Letter}
-use Rattle.faults.specs.Rows.{first, rowsBelow}
-use Rattle.faults.proofs.Firsts.{below-step, below-found}
+use Rattle.faults.specs.declared.causes.MonthFault.the-variants.{Letter, PartyCount}
+use Rattle.faults.specs.Orders.{rank, MonthEarlier}
+use Rattle.faults.specs.Refusals.{monthRefusal}
+use Rattle.faults.specs.Rows.{first, rowsBelow, Exact}
+use Rattle.faults.proofs.Ascents.{Each, Placed, each-listed, each-weaker, ascending-below, exact-refusal}
+use Rattle.faults.proofs.Firsts.{Ascending, below-step, below-found}
 use Rattle.market.specs.declared.kinds.Side.{Side}
 use Rattle.market.specs.declared.kinds.Side.the-variants.{Seller, Buyer}
-use Rattle.market.specs.Letters.{letterOf, letterRow, letterRows, sideOf, unknown}
+use Rattle.market.specs.Letters.{letterOf, letterRow, letterRows, sideOf, sidesNamed, unknown}
 
 -- a letter that names a side is that side's letter, and is known
 pub named : (letter index : ℕ) (side : Side) → Ok side ≡ sideOf letter index → (letterOf side ≡ letter) × (unknown letter ≡ false)
@@ -50,6 +54,7 @@ turn letters sides i letter side at h few none named-so-far long e =
 -- as many letters as a month can have parties: the letters decide
 pub counted : {answer : Option MonthFault} (letters : List ℕ) → 1 ≤ length letters → length letters ≤ 64 → answer ≡ first (rowsBelow (letterRow letters) (length letters))
     → answer ≡ first (letterRows letters)
+unfolding letterRows
 counted letters some few e = e ∙ sym (cond-false (ltb (length letters) 1 || ltb 64 (length letters)) _ _ (grind (arith, tells)))
 
 -- the exit of the loop: the first letter that names no side
@@ -67,3 +72,40 @@ pub ended : (letters : List ℕ) (sides : List Side) (i : ℕ) → i ≡ length 
 ended letters sides i at some few none named-all =
     ( counted letters some few (sym none ∙ ap (λ k. first (rowsBelow (letterRow letters) k)) at)
     , ap (λ k. map letterOf (take k sides)) (sym at) ∙ named-all ∙ ap (λ k. take k letters) at ∙ take-all (length letters) letters (let le : length letters ≤ length letters = omega arith in le) )
+
+-- too few or too many letters
+pub miscounted : (letters : List ℕ) → (length letters < 1) ⊎ (64 < length letters) → Some PartyCount ≡ first (letterRows letters)
+unfolding letterRows
+miscounted letters (inl few) = sym (cond-true (ltb (length letters) 1 || ltb 64 (length letters)) _ _ (or-left _ _ (lt-ltb _ _ few)))
+miscounted letters (inr many) = sym (cond-true (ltb (length letters) 1 || ltb 64 (length letters)) _ _ (or-right _ _ (lt-ltb _ _ many)))
+
+-- the rows stand in the order of their refusals
+letters-placed : (letters : List ℕ) → Ascending MonthEarlier (rowsBelow (letterRow letters) (length letters))
+    × Each (Placed monthRefusal 3 0 (0 + 1 * length letters)) (rowsBelow (letterRow letters) (length letters))
+letters-placed letters =
+    ascending-below monthRefusal 3 0 1 (letterRow letters) (length letters) (λ i. (λ g l. absurd l, tt)) (λ i. ((refl, omega arith, omega arith), tt))
+
+pub letters-ascend : (letters : List ℕ) → Ascending MonthEarlier (letterRows letters)
+unfolding letterRows
+letters-ascend letters =
+    ( λ g l. inl (let r : rank (monthRefusal g) ≡ 3 = each-listed (Placed monthRefusal 3 0 (0 + 1 * length letters)) (rowsBelow (letterRow letters) (length letters)) (letters-placed letters .1) g l .0 in omega arith)
+    , letters-placed letters .0 )
+
+pub letters-rank : (letters : List ℕ) → Each (λ f. rank (monthRefusal f) < 11) (letterRows letters)
+unfolding letterRows
+letters-rank letters =
+    ( lit< tt
+    , each-weaker (Placed monthRefusal 3 0 (0 + 1 * length letters)) (λ f. rank (monthRefusal f) < 11) (rowsBelow (letterRow letters) (length letters)) (λ f p. omega arith) (letters-placed letters .1) )
+
+-- so the first that holds is exactly the earliest
+pub exact-letters : (letters : List ℕ) {answer : Option MonthFault} → answer ≡ first (letterRows letters) → Exact MonthEarlier (letterRows letters) answer
+exact-letters letters e = subst (Exact MonthEarlier (letterRows letters)) (sym e) (exact-refusal monthRefusal (letterRows letters) (letters-ascend letters))
+
+-- sides with these letters are the sides that the letters name
+pub sides-named : (sides : List Side) (letters : List ℕ) → map letterOf sides ≡ letters → sides ≡ sidesNamed letters
+sides-named sides letters e = back sides ∙ ap sidesNamed e
+  where
+  back : (sides : List Side) → sides ≡ sidesNamed (map letterOf sides)
+  back [] = refl
+  back (Seller ∷ sides) = ap (λ xs. Seller ∷ xs) (back sides)
+  back (Buyer ∷ sides) = ap (λ xs. Buyer ∷ xs) (back sides)

@@ -29,5 +29,10 @@ abbrev pub letterRow : List ℕ → ℕ → List (MonthFault × Bool)
 letterRow letters index = (Letter index, unknown (getD letters index 0)) ∷ []
 
 -- the rows of kind letters: their number is 1 to 64, and each names a side
-abbrev pub letterRows : List ℕ → List (MonthFault × Bool)
+unfoldable pub letterRows : List ℕ → List (MonthFault × Bool)
 letterRows letters = (PartyCount, ltb (length letters) 1 || ltb 64 (length letters)) ∷ rowsBelow (letterRow letters) (length letters)
+
+-- the sides that letters name, where each names one
+abbrev pub sidesNamed : List ℕ → List Side
+sidesNamed [] = []
+sidesNamed (letter ∷ letters) = cond (eqb letter (letterOf Seller)) Seller Buyer ∷ sidesNamed letters

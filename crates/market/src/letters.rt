@@ -2,7 +2,8 @@ ghost use mathlib.Core.Path.{_≡_};
 ghost use mathlib.Core.List.{map};
 ghost use Rattle.std.specs.Results.{errPart};
 ghost use Rattle.std.specs.Vec.{made};
-ghost use Rattle.faults.specs.Rows.{first};
+ghost use Rattle.faults.specs.Orders.{MonthEarlier};
+ghost use Rattle.faults.specs.Rows.{first, Exact};
 ghost use Rattle.market.specs.Letters.{sideOf, letterOf, letterRows};
 ghost use Rattle.market.specs.Parties.{sidesIn};
 use crate::kinds::Side;
@@ -24,6 +25,7 @@ impl Sides {
     /// The sides that kind letters name, or what is wrong with the letters: their number first, then the first that is neither S nor B.
     pub fn from_letters(letters: &[u8]) -> Result<Sides, MonthFault>
         ensures fault { λ r. ⌜ errPart r ≡ first (letterRows (now (letters .entry))) ⌝ }
+        ensures exact { λ r. ⌜ Exact MonthEarlier (letterRows (now (letters .entry))) (errPart r) ⌝ }
         ensures sides { λ r. ⌜ made r (λ s. map letterOf (sidesIn s) ≡ now (letters .entry)) ⌝ }
     {
         let count = letters.len();

@@ -1,0 +1,4 @@
+mod Checking
+mod Opening
+mod Ordering
+mod Scanning
