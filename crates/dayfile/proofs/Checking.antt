@@ -28,7 +28,7 @@ use Rattle.dayfile.specs.Structure.{structureRows}
 -- where the sides are as many as the parties, the records answer, section by section
 parts : (file : List ℕ) (parties : ℕ) (layout : Layout) (sides : List Side) → parties ≡ length sides
     → first (checkRows file parties layout sides)
-      ≡ orOther (orOther (first (partRows file layout sides Quantities)) (first (partRows file layout sides NodePrices))) (first (partRows file layout sides Contracts))
+    ≡ orOther (orOther (first (partRows file layout sides Quantities)) (first (partRows file layout sides NodePrices))) (first (partRows file layout sides Contracts))
 unfolding recordRows
 parts file parties layout sides same =
     ap (λ b. cond (not b) (Some PartyCount) (first (recordRows file layout sides))) (eq-eqb parties (length sides) same)
@@ -69,7 +69,7 @@ pub line-there : (file : List ℕ) (parties : ℕ) (layout : Layout) (party : �
 line-there file parties layout party side hour line p low high e =
     ap Some e
     ∙ ap (λ b. whenTrue b (lineIn file layout side (24 * party + (hour - 1))))
-      (sym (and-from (ltb party parties) (ltb 0 hour && ltb hour 25) (lt-ltb party parties p) (and-from (ltb 0 hour) (ltb hour 25) (lt-ltb 0 hour (omega arith)) (lt-ltb hour 25 (omega arith)))))
+    (sym (and-from (ltb party parties) (ltb 0 hour && ltb hour 25) (lt-ltb party parties p) (and-from (ltb 0 hour) (ltb hour 25) (lt-ltb 0 hour (omega arith)) (lt-ltb hour 25 (omega arith)))))
 
 -- a line read number by number
 pub line-read : (file : List ℕ) (layout : Layout) (side : Side) (line quantities prices : ℕ) (ahead reading metered ahead-price real-price : ℤ)

@@ -28,8 +28,8 @@ unfolding structureRows
 parts file n =
     first-++ (map wrapped (headerRows file ++ sectionRows file)) (countRow file n)
     ∙ ap
-      (λ o. orOther o (first (countRow file n)))
-      (first-map File (headerRows file ++ sectionRows file) ∙ ap (mapped File) (first-++ (headerRows file) (sectionRows file)))
+    (λ o. orOther o (first (countRow file n)))
+    (first-map File (headerRows file ++ sectionRows file) ∙ ap (mapped File) (first-++ (headerRows file) (sectionRows file)))
 
 following : (a la b lb c m n : ℕ) → a + la ≤ b → b + lb ≤ c → la ≡ 192 * m → lb ≡ 192 * m → m ≡ n → (a + 192 * n ≤ b) × (b + 192 * n ≤ c)
 following a la b lb c m n p q e f h = (omega arith, omega arith)

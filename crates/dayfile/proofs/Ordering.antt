@@ -38,11 +38,43 @@ structure-ranks file n =
 structure-ascends : (file : List ℕ) (n : ℕ) → Ascending RecordEarlier (structureRows file n)
 unfolding structureRows
 structure-ascends file n =
-    ascending-linked recordRefusal (File (TooShort (length file))) (drop 1 (structureRows file n))
-    ( inl (lit< tt), (inr (refl, lit< tt), (inr (refl, lit< tt), (inr (refl, lit< tt), (inr (refl, lit< tt), (inr (refl, lit< tt)
-    , (inl (lit< tt), (inr (refl, lit< tt), (inr (refl, lit< tt)
-    , (inl (lit< tt), (inr (refl, lit< tt), (inr (refl, lit< tt)
-    , (inl (lit< tt), tt)))))))))))))
+    ascending-linked recordRefusal (File (TooShort (length file))) (drop 1 (structureRows file n)) (
+      inl (lit< tt),
+      (
+        inr (refl, lit< tt),
+        (
+          inr (refl, lit< tt),
+          (
+            inr (refl, lit< tt),
+            (
+              inr (refl, lit< tt),
+              (
+                inr (refl, lit< tt),
+                (
+                  inl (lit< tt),
+                  (
+                    inr (refl, lit< tt),
+                    (
+                      inr (refl, lit< tt),
+                      (
+                        inl (lit< tt),
+                        (
+                          inr (refl, lit< tt),
+                          (
+                            inr (refl, lit< tt),
+                            (inl (lit< tt), tt),
+                          ),
+                        ),
+                      ),
+                    ),
+                  ),
+                ),
+              ),
+            ),
+          ),
+        ),
+      ),
+    )
 
 -- the structural check answers exactly the earliest fault
 pub exact-structure : (file : List ℕ) (n : ℕ) {answer : Option RecordFault} → answer ≡ first (structureRows file n) → Exact RecordEarlier (structureRows file n) answer
@@ -52,9 +84,10 @@ exact-structure file n e = subst (Exact RecordEarlier (structureRows file n)) (s
 two-rows : (a b : RecordFault × Bool) (at : ℕ) → rank (recordRefusal (a .0)) ≡ 16 → recordRefusal (a .0) .place ≡ at → rank (recordRefusal (b .0)) ≡ 16
     → recordRefusal (b .0) .place ≡ at + 4
     → Ascending RecordEarlier (a ∷ b ∷ []) × Each (Placed recordRefusal 16 at (at + 8)) (a ∷ b ∷ [])
-two-rows a b at ra pa rb pb =
-    ( ascending-linked recordRefusal (a .0) (b ∷ []) (inr (ra ∙ sym rb, omega arith), tt)
-    , ((ra, omega arith, omega arith), ((rb, omega arith, omega arith), tt)) )
+two-rows a b at ra pa rb pb = (
+  ascending-linked recordRefusal (a .0) (b ∷ []) (inr (ra ∙ sym rb, omega arith), tt),
+  ((ra, omega arith, omega arith), ((rb, omega arith, omega arith), tt)),
+)
 
 quantity-rows : (file : List ℕ) (side : Side) (at : ℕ) → Ascending RecordEarlier (quantityRows file side at) × Each (Placed recordRefusal 16 at (at + 8)) (quantityRows file side at)
 quantity-rows file side at =
@@ -92,11 +125,11 @@ records-rank : (file : List ℕ) (layout : Layout) (sides : List Side) → Each 
 unfolding recordRows
 records-rank file layout sides =
     let ranked = λ (low high : ℕ) (rows : List (RecordFault × Bool)) (p : Each (Placed recordRefusal 16 low high) rows).
-          each-weaker (Placed recordRefusal 16 low high) (λ f. rank (recordRefusal f) ≡ 16) rows (λ x p. p .0) p in
+    each-weaker (Placed recordRefusal 16 low high) (λ f. rank (recordRefusal f) ≡ 16) rows (λ x p. p .0) p in
     each-++ (λ f. rank (recordRefusal f) ≡ 16) (partRows file layout sides Quantities ++ partRows file layout sides NodePrices) (partRows file layout sides Contracts)
     (each-++ (λ f. rank (recordRefusal f) ≡ 16) (partRows file layout sides Quantities) (partRows file layout sides NodePrices)
-      (ranked (layout .quantities) (layout .quantities + 8 * (24 * length sides)) (partRows file layout sides Quantities) (quantities-ascend file layout sides .1))
-      (ranked (layout .prices) (layout .prices + 8 * (24 * length sides)) (partRows file layout sides NodePrices) (prices-ascend file layout sides .1)))
+    (ranked (layout .quantities) (layout .quantities + 8 * (24 * length sides)) (partRows file layout sides Quantities) (quantities-ascend file layout sides .1))
+    (ranked (layout .prices) (layout .prices + 8 * (24 * length sides)) (partRows file layout sides NodePrices) (prices-ascend file layout sides .1)))
     (ranked (layout .contracts) (layout .contracts + 12 * layout .«contract_count») (partRows file layout sides Contracts) (contracts-ascend file layout sides .1))
 
 -- a wider stretch of places
@@ -142,7 +175,7 @@ pub exact-check : (file : List ℕ) (parties : ℕ) (layout : Layout) (sides : L
 exact-check file parties layout sides e same laid =
     subst (Exact RecordEarlier (checkRows file parties layout sides)) (sym e)
     (exact-refusal recordRefusal (checkRows file parties layout sides)
-      (λ g l. before-records file layout sides PartyCount g (lit< tt) l, records-ascend file layout sides (subst (λ n. InOrder n layout) same laid)))
+    (λ g l. before-records file layout sides PartyCount g (lit< tt) l, records-ascend file layout sides (subst (λ n. InOrder n layout) same laid)))
 
 structure-apart : (file : List ℕ) (sides : List Side) (f g : RecordFault) → Listed (structureRows file (length sides)) f → Listed (recordRows file (layoutIn file) sides) g → RecordEarlier f g
 structure-apart file sides f g l r =
@@ -159,5 +192,5 @@ pub exact-file : (file : List ℕ) (sides : List Side) {answer : Option RecordFa
 exact-file file sides e laid =
     subst (Exact RecordEarlier (fileRows file sides)) (sym e)
     (exact-refusal recordRefusal (fileRows file sides)
-      (ascending-++ recordRefusal (structureRows file (length sides)) (recordRows file (layoutIn file) sides) (structure-ascends file (length sides))
-        (records-ascend file (layoutIn file) sides laid) (structure-apart file sides)))
+    (ascending-++ recordRefusal (structureRows file (length sides)) (recordRows file (layoutIn file) sides) (structure-ascends file (length sides))
+    (records-ascend file (layoutIn file) sides laid) (structure-apart file sides)))

@@ -81,9 +81,10 @@ wrongTerms contract = ltb (contract .hour) 1 || ltb 24 (contract .hour) || outsi
 
 -- 18: a contract breaks a rule
 abbrev pub contractRow : List ℕ → List Side → ℕ → List (RecordFault × Bool)
-contractRow file sides at =
-    ( faults.Contract at
-    , wrongParties sides (contractIn file at .seller) (contractIn file at .buyer) || not (eqb (byteAt file (at + 3)) 0) || wrongTerms (contractIn file at) )
+contractRow file sides at = (
+  faults.Contract at,
+  wrongParties sides (contractIn file at .seller) (contractIn file at .buyer) || not (eqb (byteAt file (at + 3)) 0) || wrongTerms (contractIn file at),
+)
     ∷ []
 
 -- the rows of an item of a section
@@ -103,11 +104,11 @@ recordRows file layout sides = partRows file layout sides Quantities ++ partRows
 -- the numbers of a line; a seller's negative reading is kept as 0
 abbrev pub lineIn : List ℕ → Layout → Side → ℕ → Line
 lineIn file layout side line =
-    record
-    { «day_ahead» = signedAt file (itemAt layout Quantities line)
-    ; metered = keptOf side (signedAt file (itemAt layout Quantities line + 4))
-    ; «day_ahead_price» = signedAt file (itemAt layout NodePrices line)
-    ; «real_time_price» = signedAt file (itemAt layout NodePrices line + 4)
+    record {
+      «day_ahead» = signedAt file (itemAt layout Quantities line);
+      metered = keptOf side (signedAt file (itemAt layout Quantities line + 4));
+      «day_ahead_price» = signedAt file (itemAt layout NodePrices line);
+      «real_time_price» = signedAt file (itemAt layout NodePrices line + 4);
     }
 
 -- a line and a contract of a file, where there is such a party, hour or contract

@@ -46,14 +46,23 @@ fn taken_apart(bytes: &[u8]) -> (Contract, u8)
         [seller, buyer, hour, zero, rest @ ..] => {
             let kwh = i64::from(u32_at(rest, 0));
             let price = i64_at(rest, 4);
-            (Contract { seller: *seller, buyer: *buyer, hour: *hour, kwh, price }, *zero)
+            (
+                Contract {
+                    seller: *seller,
+                    buyer: *buyer,
+                    hour: *hour,
+                    kwh,
+                    price,
+                },
+                *zero,
+            )
         }
         _ => unreachable(),
     }
 }
 
 /// The contract at an offset and the byte of its record that is to be 0.
-pub fn contract_at(file: &[u8], at: usize) -> (Contract, u8)
+pub(crate) fn contract_at(file: &[u8], at: usize) -> (Contract, u8)
     requires { ⌜ at < 2 ^ 60 ⌝ }
     ensures { λ r. ⌜ (r .0 ≡ contractIn (now (file .entry)) at) × (r .1 ≡ byteAt (now (file .entry)) (at + 3)) ⌝ }
 {
@@ -81,12 +90,17 @@ fn buys(sides: &[Side], party: u8) -> bool
 fn wrong_terms(contract: Contract) -> bool
     ensures { λ r. ⌜ r ≡ wrongTerms contract ⌝ }
 {
-    let Contract { hour, kwh, price, .. } = contract;
+    let Contract {
+        hour,
+        kwh,
+        price,
+        ..
+    } = contract;
     hour < 1 || 24 < hour || kwh < 1 || 4_000_000 < kwh || beyond_price(price)
 }
 
 /// A contract that keeps every rule, or refusal 18.
-pub fn check_contract(file: &[u8], sides: &[Side], at: usize) -> Result<(), RecordFault>
+pub(crate) fn check_contract(file: &[u8], sides: &[Side], at: usize) -> Result<(), RecordFault>
     requires { ⌜ at < 2 ^ 60 ⌝ }
     ensures { λ r. ⌜ errPart r ≡ first (contractRow (now (file .entry)) (now (sides .entry)) at) ⌝ }
 {

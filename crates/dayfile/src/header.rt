@@ -9,11 +9,15 @@ use faults::FileFault;
 fn expect_byte(file: &[u8], at: usize, wanted: u8) -> Result<(), FileFault>
     ensures { λ r. ⌜ errPart r ≡ first (byteRow (now (file .entry)) at wanted) ⌝ }
 {
-    if byte_at(file, at) == wanted { Ok(()) } else { Err(FileFault::WrongByte(at)) }
+    if byte_at(file, at) == wanted {
+        Ok(())
+    } else {
+        Err(FileFault::WrongByte(at))
+    }
 }
 
 /// The file's length and the fixed bytes of its header: refusals 11 and 12.
-pub fn check_header(file: &[u8]) -> Result<(), FileFault>
+pub(crate) fn check_header(file: &[u8]) -> Result<(), FileFault>
     ensures { λ r. ⌜ errPart r ≡ first (headerRows (now (file .entry))) ⌝ }
 {
     if file.len() < 32 {

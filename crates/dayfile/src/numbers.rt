@@ -12,7 +12,7 @@ use market::beyond_metered;
 use market::beyond_price;
 
 /// A line's two quantities within their limits, or refusal 16.
-pub fn check_quantities(file: &[u8], side: Side, at: usize) -> Result<(), RecordFault>
+pub(crate) fn check_quantities(file: &[u8], side: Side, at: usize) -> Result<(), RecordFault>
     requires { ⌜ at < 2 ^ 60 ⌝ }
     ensures { λ r. ⌜ errPart r ≡ first (quantityRows (now (file .entry)) side at) ⌝ }
 {
@@ -39,7 +39,7 @@ fn check_price(file: &[u8], side: Side, at: usize) -> Result<(), RecordFault>
 }
 
 /// A line's two prices.
-pub fn check_prices(file: &[u8], side: Side, at: usize) -> Result<(), RecordFault>
+pub(crate) fn check_prices(file: &[u8], side: Side, at: usize) -> Result<(), RecordFault>
     requires { ⌜ at < 2 ^ 60 ⌝ }
     ensures { λ r. ⌜ errPart r ≡ first (priceRows (now (file .entry)) side at) ⌝ }
 {

@@ -13,7 +13,7 @@ use faults::Section;
 use market::Side;
 
 /// Where an item of a section stands in the file.
-pub fn item_at(layout: Layout, section: Section, item: usize) -> usize
+pub(crate) fn item_at(layout: Layout, section: Section, item: usize) -> usize
     requires { ⌜ item < 2 ^ 32 ⌝ }
     ensures value { λ r. ⌜ r ≡ itemAt layout section item ⌝ }
     ensures bound { λ r. ⌜ r < 2 ^ 36 ⌝ }
@@ -38,7 +38,13 @@ fn item_count(layout: Layout, sides: &[Side], section: Section) -> usize
 }
 
 /// An item of a section that keeps its rules, or its first fault of 16 to 18.
-fn check_item(file: &[u8], layout: Layout, sides: &[Side], section: Section, item: usize) -> Result<(), RecordFault>
+fn check_item(
+    file: &[u8],
+    layout: Layout,
+    sides: &[Side],
+    section: Section,
+    item: usize,
+) -> Result<(), RecordFault>
     requires { ⌜ length (now sides) ≤ 255 ⌝ ∗ ⌜ item < itemCount layout (now sides) section ⌝ ∗ ⌜ item < 2 ^ 32 ⌝ }
     ensures { λ r. ⌜ errPart r ≡ first (itemRows (now (file .entry)) layout (now (sides .entry)) section item) ⌝ }
 {
@@ -51,7 +57,12 @@ fn check_item(file: &[u8], layout: Layout, sides: &[Side], section: Section, ite
 }
 
 /// The items of a section, in order: the first fault of 16 to 18.
-pub fn scan(file: &[u8], layout: Layout, sides: &[Side], section: Section) -> Result<(), RecordFault>
+pub(crate) fn scan(
+    file: &[u8],
+    layout: Layout,
+    sides: &[Side],
+    section: Section,
+) -> Result<(), RecordFault>
     requires { ⌜ length (now sides) ≤ 255 ⌝ }
     ensures { λ r. ⌜ errPart r ≡ first (partRows (now (file .entry)) layout (now (sides .entry)) section) ⌝ }
 {

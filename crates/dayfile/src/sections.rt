@@ -38,7 +38,10 @@ fn expect_order(file: &[u8], section: Section, start: usize) -> Result<Extent, F
     ensures extent { λ r. ⌜ made r (λ e. e ≡ extentOf (now (file .entry)) section) ⌝ }
 {
     let at = pair_at(section);
-    let extent = Extent { offset: u32_at(file, at), length: u32_at(file, at + 4) };
+    let extent = Extent {
+        offset: u32_at(file, at),
+        length: u32_at(file, at + 4),
+    };
     if (extent.offset as usize) < start || file.len() < past(extent) {
         return Err(FileFault::OutOfOrder(section));
     }
@@ -55,11 +58,15 @@ fn expect_length(file: &[u8], section: Section, bytes: u32) -> Result<(), FileFa
         Section::NodePrices => bytes != 192 * u32::from(byte_at(file, 5)),
         Section::Contracts => bytes % 12 != 0 || 3072 < bytes,
     };
-    if wrong { Err(FileFault::WrongLength(section)) } else { Ok(()) }
+    if wrong {
+        Err(FileFault::WrongLength(section))
+    } else {
+        Ok(())
+    }
 }
 
 /// The layout of three sections in order and of the right lengths: refusals 13 and 14.
-pub fn layout_of(file: &[u8]) -> Result<Layout, FileFault>
+pub(crate) fn layout_of(file: &[u8]) -> Result<Layout, FileFault>
     ensures fault { λ r. ⌜ errPart r ≡ first (sectionRows (now (file .entry))) ⌝ }
     ensures layout { λ r. ⌜ made r (λ l. l ≡ layoutIn (now (file .entry))) ⌝ }
 {

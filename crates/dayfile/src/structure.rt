@@ -27,6 +27,10 @@ impl<'a> DayFile<'a> {
         if usize::from(count) != parties {
             return Err(RecordFault::PartyCount);
         }
-        Ok(DayFile { bytes, parties: count, layout })
+        Ok(DayFile {
+            bytes,
+            parties: count,
+            layout,
+        })
     }
 }

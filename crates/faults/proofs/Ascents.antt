@@ -79,15 +79,17 @@ module _ {X : Type 0} (refusal : X → Refusal) where
   pub ascending-linked : (fault : X) (rows : List (X × Bool)) → Linked fault rows → ((g : X) → Listed rows g → Before fault g) × Ascending Before rows
   ascending-linked fault [] h = (λ g l. absurd l, tt)
   ascending-linked fault (row ∷ rows) h =
-      let rest = ascending-linked (row .0) rows (h .1) in
-      ( λ g l. elim l [ inl e ↦ subst (λ x. Before fault x) e (h .0) | inr r ↦ earlier-trans (refusal fault) (refusal (row .0)) (refusal g) (h .0) (rest .0 g r) ]
-      , rest )
+      let rest = ascending-linked (row .0) rows (h .1) in (
+        λ g l. elim l [ inl e ↦ subst (λ x. Before fault x) e (h .0) | inr r ↦ earlier-trans (refusal fault) (refusal (row .0)) (refusal g) (h .0) (rest .0 g r) ],
+        rest,
+      )
 
   pub ascending-++ : (xs ys : List (X × Bool)) → Ascending Before xs → Ascending Before ys → ((f g : X) → Listed xs f → Listed ys g → Before f g) → Ascending Before (xs ++ ys)
   ascending-++ [] ys p q h = q
-  ascending-++ (x ∷ xs) ys p q h =
-      ( λ g l. elim (listed-++ xs ys g l) [ inl r ↦ p .0 g r | inr r ↦ h (x .0) g (inl refl) r ]
-      , ascending-++ xs ys (p .1) q (λ f g l r. h f g (inr l) r) )
+  ascending-++ (x ∷ xs) ys p q h = (
+    λ g l. elim (listed-++ xs ys g l) [ inl r ↦ p .0 g r | inr r ↦ h (x .0) g (inl refl) r ],
+    ascending-++ xs ys (p .1) q (λ f g l r. h f g (inr l) r),
+  )
 
   -- two tables of one rank, the places of the first below those of the second
   pub ascending-apart : (order low middle high : ℕ) (xs ys : List (X × Bool)) → Ascending Before xs → Ascending Before ys
@@ -95,9 +97,9 @@ module _ {X : Type 0} (refusal : X → Refusal) where
   ascending-apart order low middle high xs ys p q inside past =
       ascending-++ xs ys p q
       (λ f g l r.
-        let here = each-listed (Placed order low middle) xs inside f l in
-        let there = each-listed (Placed order middle high) ys past g r in
-        inr (here .0 ∙ sym (there .0), omega arith))
+      let here = each-listed (Placed order low middle) xs inside f l in
+      let there = each-listed (Placed order middle high) ys past g r in
+      inr (here .0 ∙ sym (there .0), omega arith))
 
   -- items that stand one after the other, each of so many bytes
   pub ascending-below : (order start size : ℕ) (rows : ℕ → List (X × Bool)) (n : ℕ) → ((i : ℕ) → Ascending Before (rows i))
@@ -107,11 +109,12 @@ module _ {X : Type 0} (refusal : X → Refusal) where
   ascending-below order start size rows zero up inside = (tt, tt)
   ascending-below order start size rows (suc n) up inside =
       let before = ascending-below order start size rows n up inside in
-      let grown : size * suc n ≡ size * n + size = mul-suc size n in
-      ( ascending-apart order start (start + size * n) (start + size * n + size) (rowsBelow rows n) (rows n) (before .0) (up n) (before .1) (inside n)
-      , each-++ (Placed order start (start + size * suc n)) (rowsBelow rows n) (rows n)
-        (each-weaker (Placed order start (start + size * n)) (Placed order start (start + size * suc n)) (rowsBelow rows n) (λ x p. (p .0, p .1, omega arith)) (before .1))
-        (each-weaker (Placed order (start + size * n) (start + size * n + size)) (Placed order start (start + size * suc n)) (rows n) (λ x p. (p .0, omega arith, omega arith)) (inside n)) )
+      let grown : size * suc n ≡ size * n + size = mul-suc size n in (
+        ascending-apart order start (start + size * n) (start + size * n + size) (rowsBelow rows n) (rows n) (before .0) (up n) (before .1) (inside n),
+        each-++ (Placed order start (start + size * suc n)) (rowsBelow rows n) (rows n)
+            (each-weaker (Placed order start (start + size * n)) (Placed order start (start + size * suc n)) (rowsBelow rows n) (λ x p. (p .0, p .1, omega arith)) (before .1))
+            (each-weaker (Placed order (start + size * n) (start + size * n + size)) (Placed order start (start + size * suc n)) (rows n) (λ x p. (p .0, omega arith, omega arith)) (inside n)),
+      )
 
   pub exact-refusal : (rows : List (X × Bool)) → Ascending Before rows → Exact Before rows (first rows)
   exact-refusal rows up = exact Before (λ f g. earlier-asym (refusal f) (refusal g)) rows up
@@ -123,26 +126,28 @@ module _ {X : Type 0} (refusal : X → Refusal) where
       let front = exact-refusal xs up in
       let here = front .some fault e in
       let after : (g : X) → Holds ys g → Before fault g = λ g h. apart fault g (listed xs fault (here .0)) (listed ys g h) in
-      record
-      { none = λ is f h. grind arith
-      ; some = λ f is.
-          let same : fault ≡ f = cc in
-          subst (Earliest Before (xs ++ ys)) same
-          ( holds-left xs ys fault (here .0)
-          , λ g h b. elim (holds-++ xs ys g h) [ inl l ↦ here .1 g l b | inr r ↦ earlier-asym (refusal fault) (refusal g) (after g r) b ] )
-      ; only = λ f h. elim (holds-++ xs ys f (h .0))
-          [ inl l ↦ sym e ∙ front .only f (l, λ g m b. h .1 g (holds-left xs ys g m) b)
-          | inr r ↦ absurd (h .1 fault (holds-left xs ys fault (here .0)) (after f r)) ]
+      record {
+        none = λ is f h. grind arith;
+        some = λ f is.
+            let same : fault ≡ f = cc in
+            subst (Earliest Before (xs ++ ys)) same (
+              holds-left xs ys fault (here .0),
+              λ g h b. elim (holds-++ xs ys g h) [ inl l ↦ here .1 g l b | inr r ↦ earlier-asym (refusal fault) (refusal g) (after g r) b ],
+            );
+        only = λ f h. elim (holds-++ xs ys f (h .0)) [
+          | inl l ↦ sym e ∙ front .only f (l, λ g m b. h .1 g (holds-left xs ys g m) b)
+          | inr r ↦ absurd (h .1 fault (holds-left xs ys fault (here .0)) (after f r))
+        ];
       }
 
 -- where no row of the first table holds, the second answers for both
 pub exact-behind : {X : Type 0} (before : X → X → Type 0) (xs ys : List (X × Bool)) (answer : Option X) → None ≡ first xs → Exact before ys answer → Exact before (xs ++ ys) answer
 exact-behind {X} before xs ys answer none e =
     let right : (f : X) → Holds (xs ++ ys) f → Holds ys f = λ f h. elim (holds-++ xs ys f h) [ inl l ↦ absurd (no-first xs (sym none) f l) | inr r ↦ r ] in
-    record
-    { none = λ is f h. e .none is f (right f h)
-    ; some = λ f is. (holds-right xs ys f (e .some f is .0), λ g h b. e .some f is .1 g (right g h) b)
-    ; only = λ f h. e .only f (right f (h .0), λ g m b. h .1 g (holds-right xs ys g m) b)
+    record {
+      none = λ is f h. e .none is f (right f h);
+      some = λ f is. (holds-right xs ys f (e .some f is .0), λ g h b. e .some f is .1 g (right g h) b);
+      only = λ f h. e .only f (right f (h .0), λ g m b. h .1 g (holds-right xs ys g m) b);
     }
 
 -- a table whose faults are named anew, the order being the same
@@ -167,26 +172,29 @@ module _ {X Y : Type 0} (name : X → Y) (before : Y → Y → Type 0) where
 
   pub exact-renamed : (rows : List (X × Bool)) (answer : Option X) → Exact (λ a b. before (name a) (name b)) rows answer → Exact before (renamed rows) (mapped name answer)
   exact-renamed rows answer e =
-      record
-      { none = λ is y h. let found = named-before rows y h in e .none (no-name answer is) (found .0) (found .2)
-      ; some = λ y is.
-          let found = some-name answer y is in
-          let here = e .some (found .0) (found .2) in
-          subst (Earliest before (renamed rows)) (found .1)
-          ( holds-renamed rows (found .0) (here .0)
-          , λ z h b. let other = named-before rows z h in here .1 (other .0) (other .2) (subst (λ w. before w (name (found .0))) (sym (other .1)) b) )
-      ; only = λ y h.
-          let found = named-before rows y (h .0) in
-          ap (mapped name)
-          (e .only (found .0)
-            ( found .2
-            , λ z m b. h .1 (name z) (holds-renamed rows z m) (subst (before (name z)) (found .1) b) ))
-          ∙ ap Some (found .1)
+      record {
+        none = λ is y h. let found = named-before rows y h in e .none (no-name answer is) (found .0) (found .2);
+        some = λ y is.
+            let found = some-name answer y is in
+            let here = e .some (found .0) (found .2) in
+            subst (Earliest before (renamed rows)) (found .1) (
+              holds-renamed rows (found .0) (here .0),
+              λ z h b. let other = named-before rows z h in here .1 (other .0) (other .2) (subst (λ w. before w (name (found .0))) (sym (other .1)) b),
+            );
+        only = λ y h.
+            let found = named-before rows y (h .0) in
+            ap (mapped name)
+            (e .only (found .0) (
+              found .2,
+              λ z m b. h .1 (name z) (holds-renamed rows z m) (subst (before (name z)) (found .1) b),
+            ))
+            ∙ ap Some (found .1);
       }
     where
-    no-name : (o : Option X) → mapped name o ≡ None → o ≡ None
-    no-name None is = refl
-    no-name (Some x) is = grind arith
-    some-name : (o : Option X) (y : Y) → mapped name o ≡ Some y → (x : X) × (name x ≡ y) × (o ≡ Some x)
-    some-name None y is = grind arith
-    some-name (Some x) y is = (x, cc, refl)
+      no-name : (o : Option X) → mapped name o ≡ None → o ≡ None
+      no-name None is = refl
+      no-name (Some x) is = grind arith
+
+      some-name : (o : Option X) (y : Y) → mapped name o ≡ Some y → (x : X) × (name x ≡ y) × (o ≡ Some x)
+      some-name None y is = grind arith
+      some-name (Some x) y is = (x, cc, refl)

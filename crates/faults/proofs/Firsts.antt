@@ -21,8 +21,8 @@ first-++ {X} (x ∷ xs) ys =
 -- the first of a table after the faults are named anew
 pub first-map : {X Y : Type 0} (f : X → Y) (rows : List (X × Bool)) → first (map (λ row. (f (row .0), row .1)) rows) ≡ mapped f (first rows)
 first-map f [] = refl
-first-map f ((x , true) ∷ rows) = refl
-first-map f ((x , false) ∷ rows) = first-map f rows
+first-map f ((x, true) ∷ rows) = refl
+first-map f ((x, false) ∷ rows) = first-map f rows
 
 pub below-none : {X : Type 0} (rows : ℕ → List (X × Bool)) → first (rowsBelow rows 0) ≡ None
 unfolding rowsBelow
@@ -38,9 +38,10 @@ pub below-stays : {X : Type 0} (rows : ℕ → List (X × Bool)) (m n : ℕ) (fa
 unfolding rowsBelow
 below-stays rows m zero fault h e = subst (λ k. first (rowsBelow rows k) ≡ Some fault) (let z : m ≡ 0 = omega arith in z) e
 below-stays {X} rows m (suc n) fault h e =
-    elim (cases-lt n m)
-    [ inr le ↦ first-++ (rowsBelow rows n) (rows n) ∙ ap (λ o. orOther o (first (rows n))) (below-stays rows m n fault le e)
-    | inl lt ↦ subst (λ k. first (rowsBelow rows k) ≡ Some fault) (let eq : m ≡ suc n = omega arith in eq) e ]
+    elim (cases-lt n m) [
+      | inr le ↦ first-++ (rowsBelow rows n) (rows n) ∙ ap (λ o. orOther o (first (rows n))) (below-stays rows m n fault le e)
+      | inl lt ↦ subst (λ k. first (rowsBelow rows k) ≡ Some fault) (let eq : m ≡ suc n = omega arith in eq) e
+    ]
 
 -- a fault found at item i, with none before it
 pub below-found : {X : Type 0} (rows : ℕ → List (X × Bool)) (i n : ℕ) (fault : X) → i < n → first (rowsBelow rows i) ≡ None → first (rows i) ≡ Some fault
@@ -58,8 +59,8 @@ Clear (row ∷ rows) = (row .1 ≡ false) × Clear rows
 
 pub all-clear : {X : Type 0} (rows : List (X × Bool)) → None ≡ first rows → Clear rows
 all-clear [] e = tt
-all-clear ((f , true) ∷ rows) e = grind arith
-all-clear ((f , false) ∷ rows) e = (refl, all-clear rows e)
+all-clear ((f, true) ∷ rows) e = grind arith
+all-clear ((f, false) ∷ rows) e = (refl, all-clear rows e)
 
 -- a row of the table has this fault, whether it holds or not
 abbrev pub Listed : {X : Type 0} → List (X × Bool) → X → Type 0
@@ -78,29 +79,31 @@ listed (row ∷ rows) fault (inr h) = inr (listed rows fault h)
 
 pub no-first : {X : Type 0} (rows : List (X × Bool)) → first rows ≡ None → (fault : X) → Holds rows fault → ⊥
 no-first [] e fault h = h
-no-first ((f , true) ∷ rows) e fault h = grind arith
-no-first ((f , false) ∷ rows) e fault (inl h) = grind arith
-no-first ((f , false) ∷ rows) e fault (inr h) = no-first rows e fault h
+no-first ((f, true) ∷ rows) e fault h = grind arith
+no-first ((f, false) ∷ rows) e fault (inl h) = grind arith
+no-first ((f, false) ∷ rows) e fault (inr h) = no-first rows e fault h
 
 module _ {X : Type 0} (before : X → X → Type 0) (asym : (f g : X) → before f g → before g f → ⊥) where
   some-first : (rows : List (X × Bool)) → Ascending before rows → (fault : X) → first rows ≡ Some fault → Earliest before rows fault
   some-first [] up fault e = grind arith
-  some-first ((f , true) ∷ rows) up fault e =
-      let same : f ≡ fault = cc in
-      ( inl (same , refl)
-      , λ other h b. elim h
-        [ inl p ↦ let twice : before f f = subst (λ x. before x f) (sym (p .0)) (subst (before other) (sym same) b) in asym f f twice twice
-        | inr p ↦ asym fault other (subst (λ x. before x other) same (up .0 other (listed rows other p))) b ] )
-  some-first ((f , false) ∷ rows) up fault e =
+  some-first ((f, true) ∷ rows) up fault e =
+      let same : f ≡ fault = cc in (
+        inl (same, refl),
+        λ other h b. elim h [
+          | inl p ↦ let twice : before f f = subst (λ x. before x f) (sym (p .0)) (subst (before other) (sym same) b) in asym f f twice twice
+          | inr p ↦ asym fault other (subst (λ x. before x other) same (up .0 other (listed rows other p))) b
+        ],
+      )
+  some-first ((f, false) ∷ rows) up fault e =
       let rest = some-first rows (up .1) fault e in
-      (inr (rest .0) , λ other h b. elim h [ inl p ↦ true≢false (sym (p .1)) | inr p ↦ rest .1 other p b ])
+      (inr (rest .0), λ other h b. elim h [ inl p ↦ true≢false (sym (p .1)) | inr p ↦ rest .1 other p b ])
 
   only-first : (rows : List (X × Bool)) → Ascending before rows → (fault : X) → Earliest before rows fault → first rows ≡ Some fault
   only-first [] up fault h = absurd (h .0)
-  only-first ((f , true) ∷ rows) up fault h =
-      elim (h .0) [ inl p ↦ ap Some (p .0) | inr p ↦ absurd (h .1 f (inl (refl , refl)) (up .0 fault (listed rows fault p))) ]
-  only-first ((f , false) ∷ rows) up fault h =
-      elim (h .0) [ inl p ↦ absurd (true≢false (sym (p .1))) | inr p ↦ only-first rows (up .1) fault (p , λ other q b. h .1 other (inr q) b) ]
+  only-first ((f, true) ∷ rows) up fault h =
+      elim (h .0) [ inl p ↦ ap Some (p .0) | inr p ↦ absurd (h .1 f (inl (refl, refl)) (up .0 fault (listed rows fault p))) ]
+  only-first ((f, false) ∷ rows) up fault h =
+      elim (h .0) [ inl p ↦ absurd (true≢false (sym (p .1))) | inr p ↦ only-first rows (up .1) fault (p, λ other q b. h .1 other (inr q) b) ]
 
   -- the first row of an ascending table is exactly the earliest
   pub exact : (rows : List (X × Bool)) → Ascending before rows → Exact before rows (first rows)

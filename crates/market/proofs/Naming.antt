@@ -46,10 +46,11 @@ pub turn : (letters : List ℕ) (sides : List Side) (i letter : ℕ) (side : Sid
     → (first (rowsBelow (letterRow letters) (i + 1)) ≡ None) × (map letterOf (take (i + 1) (set sides i side)) ≡ take (i + 1) letters) × (length (set sides i side) ≡ 64)
 turn letters sides i letter side at h few none named-so-far long e =
     let here = named letter i side e in
-    let clear : first (letterRow letters i) ≡ None = ap (λ b. cond b (Some (Letter i)) None) (ap unknown (sym at) ∙ here .1) in
-    ( below-step (letterRow letters) i none clear
-    , named-more sides letters i side (let lt : i < length sides = omega arith in lt) h named-so-far (here .0 ∙ at)
-    , simp length-set long )
+    let clear : first (letterRow letters i) ≡ None = ap (λ b. cond b (Some (Letter i)) None) (ap unknown (sym at) ∙ here .1) in (
+      below-step (letterRow letters) i none clear,
+      named-more sides letters i side (let lt : i < length sides = omega arith in lt) h named-so-far (here .0 ∙ at),
+      simp length-set long,
+    )
 
 -- as many letters as a month can have parties: the letters decide
 pub counted : {answer : Option MonthFault} (letters : List ℕ) → 1 ≤ length letters → length letters ≤ 64 → answer ≡ first (rowsBelow (letterRow letters) (length letters))
@@ -69,9 +70,10 @@ stopped letters i letter fault at h some few none e =
 pub ended : (letters : List ℕ) (sides : List Side) (i : ℕ) → i ≡ length letters → 1 ≤ length letters → length letters ≤ 64
     → first (rowsBelow (letterRow letters) i) ≡ None → map letterOf (take i sides) ≡ take i letters
     → (None ≡ first (letterRows letters)) × (map letterOf (take (length letters) sides) ≡ letters)
-ended letters sides i at some few none named-all =
-    ( counted letters some few (sym none ∙ ap (λ k. first (rowsBelow (letterRow letters) k)) at)
-    , ap (λ k. map letterOf (take k sides)) (sym at) ∙ named-all ∙ ap (λ k. take k letters) at ∙ take-all (length letters) letters (let le : length letters ≤ length letters = omega arith in le) )
+ended letters sides i at some few none named-all = (
+  counted letters some few (sym none ∙ ap (λ k. first (rowsBelow (letterRow letters) k)) at),
+  ap (λ k. map letterOf (take k sides)) (sym at) ∙ named-all ∙ ap (λ k. take k letters) at ∙ take-all (length letters) letters (let le : length letters ≤ length letters = omega arith in le),
+)
 
 -- too few or too many letters
 pub miscounted : (letters : List ℕ) → (length letters < 1) ⊎ (64 < length letters) → Some PartyCount ≡ first (letterRows letters)
@@ -87,15 +89,17 @@ letters-placed letters =
 
 pub letters-ascend : (letters : List ℕ) → Ascending MonthEarlier (letterRows letters)
 unfolding letterRows
-letters-ascend letters =
-    ( λ g l. inl (let r : rank (monthRefusal g) ≡ 3 = each-listed (Placed monthRefusal 3 0 (0 + 1 * length letters)) (rowsBelow (letterRow letters) (length letters)) (letters-placed letters .1) g l .0 in omega arith)
-    , letters-placed letters .0 )
+letters-ascend letters = (
+  λ g l. inl (let r : rank (monthRefusal g) ≡ 3 = each-listed (Placed monthRefusal 3 0 (0 + 1 * length letters)) (rowsBelow (letterRow letters) (length letters)) (letters-placed letters .1) g l .0 in omega arith),
+  letters-placed letters .0,
+)
 
 pub letters-rank : (letters : List ℕ) → Each (λ f. rank (monthRefusal f) < 11) (letterRows letters)
 unfolding letterRows
-letters-rank letters =
-    ( lit< tt
-    , each-weaker (Placed monthRefusal 3 0 (0 + 1 * length letters)) (λ f. rank (monthRefusal f) < 11) (rowsBelow (letterRow letters) (length letters)) (λ f p. omega arith) (letters-placed letters .1) )
+letters-rank letters = (
+  lit< tt,
+  each-weaker (Placed monthRefusal 3 0 (0 + 1 * length letters)) (λ f. rank (monthRefusal f) < 11) (rowsBelow (letterRow letters) (length letters)) (λ f p. omega arith) (letters-placed letters .1),
+)
 
 -- so the first that holds is exactly the earliest
 pub exact-letters : (letters : List ℕ) {answer : Option MonthFault} → answer ≡ first (letterRows letters) → Exact MonthEarlier (letterRows letters) answer
@@ -105,7 +109,7 @@ exact-letters letters e = subst (Exact MonthEarlier (letterRows letters)) (sym e
 pub sides-named : (sides : List Side) (letters : List ℕ) → map letterOf sides ≡ letters → sides ≡ sidesNamed letters
 sides-named sides letters e = back sides ∙ ap sidesNamed e
   where
-  back : (sides : List Side) → sides ≡ sidesNamed (map letterOf sides)
-  back [] = refl
-  back (Seller ∷ sides) = ap (λ xs. Seller ∷ xs) (back sides)
-  back (Buyer ∷ sides) = ap (λ xs. Buyer ∷ xs) (back sides)
+    back : (sides : List Side) → sides ≡ sidesNamed (map letterOf sides)
+    back [] = refl
+    back (Seller ∷ sides) = ap (λ xs. Seller ∷ xs) (back sides)
+    back (Buyer ∷ sides) = ap (λ xs. Buyer ∷ xs) (back sides)

@@ -11,7 +11,7 @@ use crate::kinds::Sides;
 use faults::MonthFault;
 
 /// The side that a letter names; `index` is where it stands among the letters.
-pub fn side_of(letter: char, index: usize) -> Result<Side, MonthFault>
+pub(crate) fn side_of(letter: char, index: usize) -> Result<Side, MonthFault>
     ensures { λ r. ⌜ r ≡ sideOf letter index ⌝ }
 {
     match letter {

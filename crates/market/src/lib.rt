@@ -6,7 +6,6 @@ mod limits;
 
 pub use kinds::Side;
 pub use kinds::Sides;
-pub use letters::side_of;
 pub use limits::beyond_day_ahead;
 pub use limits::beyond_metered;
 pub use limits::beyond_price;

@@ -3,6 +3,7 @@ ghost use Rattle.market.specs.Limits.{beyondDayAhead, beyondMetered, beyondPri
 use crate::kinds::Side;
 
 const MAX_KWH: i64 = 4_000_000;
+
 const MAX_PRICE_MIL: i64 = 5_000_000;
 
 /// Whether day-ahead energy is outside 0 to 4,000,000 kWh.

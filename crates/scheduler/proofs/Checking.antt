@@ -46,9 +46,10 @@ apart file letters f g l r =
 pub by-letters : (file letters : List ℕ) (fault : MonthFault) → Some fault ≡ first (letterRows letters)
     → (Some fault ≡ first (checkRows file letters)) × Exact MonthEarlier (checkRows file letters) (Some fault)
 unfolding checkRows
-by-letters file letters fault e =
-    ( sym (first-++ (letterRows letters) (map wrapped (fileRows file (sidesNamed letters))) ∙ ap (λ o. orOther o (first (map wrapped (fileRows file (sidesNamed letters))))) (sym e))
-    , exact-front monthRefusal (letterRows letters) (map wrapped (fileRows file (sidesNamed letters))) (letters-ascend letters) (apart file letters) fault (sym e) )
+by-letters file letters fault e = (
+  sym (first-++ (letterRows letters) (map wrapped (fileRows file (sidesNamed letters))) ∙ ap (λ o. orOther o (first (map wrapped (fileRows file (sidesNamed letters))))) (sym e)),
+  exact-front monthRefusal (letterRows letters) (map wrapped (fileRows file (sidesNamed letters))) (letters-ascend letters) (apart file letters) fault (sym e),
+)
 
 pub by-file : (file letters : List ℕ) (sides : List Side) (answer : Option RecordFault) → map letterOf sides ≡ letters → None ≡ first (letterRows letters) → answer ≡ first (fileRows file sides)
     → Exact RecordEarlier (fileRows file sides) answer
@@ -56,8 +57,9 @@ pub by-file : (file letters : List ℕ) (sides : List Side) (answer : Option Rec
 unfolding checkRows
 by-file file letters sides answer named none e law =
     let same = sides-named sides letters named in
-    let rows = fileRows file (sidesNamed letters) in
-    ( ap (mapped Record) (e ∙ ap (λ s. first (fileRows file s)) same) ∙ sym (first-map Record rows)
-      ∙ sym (first-++ (letterRows letters) (map wrapped rows) ∙ ap (λ o. orOther o (first (map wrapped rows))) (sym none))
-    , exact-behind MonthEarlier (letterRows letters) (map wrapped rows) (mapped Record answer) none
-      (exact-renamed Record MonthEarlier rows answer (subst (λ s. Exact RecordEarlier (fileRows file s) answer) same law)) )
+    let rows = fileRows file (sidesNamed letters) in (
+      ap (mapped Record) (e ∙ ap (λ s. first (fileRows file s)) same) ∙ sym (first-map Record rows)
+          ∙ sym (first-++ (letterRows letters) (map wrapped rows) ∙ ap (λ o. orOther o (first (map wrapped rows))) (sym none)),
+      exact-behind MonthEarlier (letterRows letters) (map wrapped rows) (mapped Record answer) none
+          (exact-renamed Record MonthEarlier rows answer (subst (λ s. Exact RecordEarlier (fileRows file s) answer) same law)),
+    )

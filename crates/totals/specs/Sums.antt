@@ -32,9 +32,9 @@ energyIn file parties layout party side hour = onLine (lineOf file parties layou
 -- a party's energy over the 24 hours
 abbrev pub energyOf : List ℕ → ℕ → Layout → ℕ → Side → Energy
 energyOf file parties layout party side =
-    record
-    { «day_ahead» = upTo (λ hour. energyIn file parties layout party side hour .«day_ahead») 24
-    ; metered = upTo (λ hour. energyIn file parties layout party side hour .metered) 24
+    record {
+      «day_ahead» = upTo (λ hour. energyIn file parties layout party side hour .«day_ahead») 24;
+      metered = upTo (λ hour. energyIn file parties layout party side hour .metered) 24;
     }
 
 -- a seller's reading in an hour; a buyer sells nothing

@@ -10,8 +10,14 @@ fn energy_in(file: &DayFile<'_>, party: usize, side: Side, hour: usize) -> Energ
     ensures { λ r. ⌜ r ≡ energyIn (now (now (file .entry) .bytes)) (now (file .entry) .parties) (now (file .entry) .layout) party side hour ⌝ }
 {
     match file.line(party, side, hour) {
-        Some(line) => Energy { day_ahead: line.day_ahead, metered: line.metered },
-        None => Energy { day_ahead: 0, metered: 0 },
+        Some(line) => Energy {
+            day_ahead: line.day_ahead,
+            metered: line.metered,
+        },
+        None => Energy {
+            day_ahead: 0,
+            metered: 0,
+        },
     }
 }
 

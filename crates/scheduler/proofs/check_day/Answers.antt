@@ -18,7 +18,7 @@ returns-in-Break-accept c =
     let letters = c .in-Continue-sides .ensures tt in
     let file = c .in-Break-accept .ensures tt in
     let e = by-file (c .args .file .now) (c .args .letters .now) (c .as-slice .result .now) (Some (c .in-Break-accept .field-0 .0)) (ap (map letterOf) (c .as-slice .ensures) ∙ letters .sides) (letters .fault)
-          (file .fault) (file .exact) in
+    (file .fault) (file .exact) in
     rw (p .1, p .2) (record { fault = e .0; exact = e .1 })
 
 pub returns : need.returns
@@ -26,5 +26,5 @@ returns c =
     let letters = c .in-Continue-sides .ensures tt in
     let file = c .in-Continue-accept .ensures tt in
     let e = by-file (c .args .file .now) (c .args .letters .now) (c .as-slice .result .now) None (ap (map letterOf) (c .as-slice .ensures) ∙ letters .sides) (letters .fault)
-          (file .fault) (file .exact) in
+    (file .fault) (file .exact) in
     record { fault = e .0; exact = e .1 }

@@ -6,6 +6,7 @@ use Rattle.dayfile.proofs.contracts.contract_at.Needs as need
 
 pub returns : need.returns
 returns c =
-    let bytes = c .record-at-bytes .ensures in
-    ( c .taken-apart .ensures .0 ∙ ap (λ xs. contractIn xs 0) bytes ∙ whole-record (c .args .file .now) (c .args .at)
-    , c .taken-apart .ensures .1 ∙ ap (λ xs. byteAt xs 3) bytes )
+    let bytes = c .record-at-bytes .ensures in (
+      c .taken-apart .ensures .0 ∙ ap (λ xs. contractIn xs 0) bytes ∙ whole-record (c .args .file .now) (c .args .at),
+      c .taken-apart .ensures .1 ∙ ap (λ xs. byteAt xs 3) bytes,
+    )

@@ -16,8 +16,8 @@ returns-in-Break-check-item c =
     rw
     (p .1, p .2)
     (sym
-      (below-found (itemRows (c .args .file .now) (c .args .layout) (c .args .sides .now) (c .args .section)) (c .loop-item .item)
-        (itemCount (c .args .layout) (c .args .sides .now) (c .args .section)) (c .in-Break-check-item .field-0 .0) lt (c .loop-item .inv) (sym (c .in-Break-check-item .ensures tt))))
+    (below-found (itemRows (c .args .file .now) (c .args .layout) (c .args .sides .now) (c .args .section)) (c .loop-item .item)
+    (itemCount (c .args .layout) (c .args .sides .now) (c .args .section)) (c .in-Break-check-item .field-0 .0) lt (c .loop-item .inv) (sym (c .in-Break-check-item .ensures tt))))
 
 pub loop-item-again : need.loop-item-again
 loop-item-again c =

@@ -15,9 +15,10 @@ loop-past-holds c = (up-none _, up-none _)
 pub loop-past-again : need.loop-past-again
 loop-past-again c =
     let a : SFits w64 (c .energy-in-energy .result .«day_ahead») = search needs in
-    let m : SFits w64 (c .energy-in-energy .result .metered) = search needs in
-    ( up-more _ _ _ _ _ (c .loop-past .inv .0) (ap (λ e. e .«day_ahead») (c .energy-in-energy .ensures)) (wrapping-add-onto w64 _ _ (c .loop-past .kept .day-ahead .fits) a)
-    , up-more _ _ _ _ _ (c .loop-past .inv .1) (ap (λ e. e .metered) (c .energy-in-energy .ensures)) (wrapping-add-onto w64 _ _ (c .loop-past .kept .metered .fits) m) )
+    let m : SFits w64 (c .energy-in-energy .result .metered) = search needs in (
+      up-more _ _ _ _ _ (c .loop-past .inv .0) (ap (λ e. e .«day_ahead») (c .energy-in-energy .ensures)) (wrapping-add-onto w64 _ _ (c .loop-past .kept .day-ahead .fits) a),
+      up-more _ _ _ _ _ (c .loop-past .inv .1) (ap (λ e. e .metered) (c .energy-in-energy .ensures)) (wrapping-add-onto w64 _ _ (c .loop-past .kept .metered .fits) m),
+    )
 
 pub returns : need.returns
 returns c =

@@ -11,11 +11,11 @@ returns-in-Break-file c =
     let p = err-from-errBy (c .from-residual .result) (c .from-residual .ensures .1) in
     let e = c .in-Break-file .ensures tt .fault in
     rw (p .1, p .2)
-    (record
-      { fault = by-structure (c .args .bytes .now) (c .args .sides .now) (c .in-Break-file .field-0 .0) e
-      ; exact = exact-broken (c .args .bytes .now) (c .args .sides .now) (c .in-Break-file .field-0 .0) e
-      ; opened = tt
-      })
+    (record {
+      fault = by-structure (c .args .bytes .now) (c .args .sides .now) (c .in-Break-file .field-0 .0) e;
+      exact = exact-broken (c .args .bytes .now) (c .args .sides .now) (c .in-Break-file .field-0 .0) e;
+      opened = tt;
+    })
 
 pub returns-in-Break-check : need.returns-in-Break-check
 returns-in-Break-check c =
@@ -24,19 +24,19 @@ returns-in-Break-check c =
     let made = c .in-Continue-file .ensures tt in
     let e = by-records (c .args .bytes .now) (f .bytes .now) (f .parties) (f .layout) (c .args .sides .now) (made .opened .0) (made .opened .1) (made .opened .2) (made .fault) (c .in-Break-check .ensures tt .fault) in
     rw (p .1, p .2)
-    (record
-      { fault = e
-      ; exact = exact-file (c .args .bytes .now) (c .args .sides .now) e (subst (InOrder (length (c .args .sides .now))) (made .opened .2) (made .in-order))
-      ; opened = tt
-      })
+    (record {
+      fault = e;
+      exact = exact-file (c .args .bytes .now) (c .args .sides .now) e (subst (InOrder (length (c .args .sides .now))) (made .opened .2) (made .in-order));
+      opened = tt;
+    })
 
 pub returns : need.returns
 returns c =
     let f = c .in-Continue-file .file in
     let made = c .in-Continue-file .ensures tt in
     let e = by-records (c .args .bytes .now) (f .bytes .now) (f .parties) (f .layout) (c .args .sides .now) (made .opened .0) (made .opened .1) (made .opened .2) (made .fault) (c .in-Continue-check .ensures tt .fault) in
-    record
-    { fault = e
-    ; exact = exact-file (c .args .bytes .now) (c .args .sides .now) e (subst (InOrder (length (c .args .sides .now))) (made .opened .2) (made .in-order))
-    ; opened = made .opened
+    record {
+      fault = e;
+      exact = exact-file (c .args .bytes .now) (c .args .sides .now) e (subst (InOrder (length (c .args .sides .now))) (made .opened .2) (made .in-order));
+      opened = made .opened;
     }

@@ -17,9 +17,9 @@ pub returns-then-from-sides : need.returns-then-from-sides
 returns-then-from-sides c =
     let f = c .args .self .now in
     let differ : not (eqb (f .parties) (length (c .args .sides .now))) ≡ true = ap not (ne-eqb (f .parties) (length (c .args .sides .now)) (λ h. c .if-from-sides .taken (c .from .ensures ∙ h))) in
-    record
-    { fault = sym (ap (λ b. cond b (Some PartyCount) (first (recordRows (f .bytes .now) (f .layout) (c .args .sides .now)))) differ)
-    ; exact = λ _. exact-count (f .bytes .now) (f .parties) (f .layout) (c .args .sides .now) differ
+    record {
+      fault = sym (ap (λ b. cond b (Some PartyCount) (first (recordRows (f .bytes .now) (f .layout) (c .args .sides .now)))) differ);
+      exact = λ _. exact-count (f .bytes .now) (f .parties) (f .layout) (c .args .sides .now) differ;
     }
 
 pub returns-in-Break-scan : need.returns-in-Break-scan

@@ -19,6 +19,6 @@ returns c =
     let line = 24 * c .args .party + (c .args .hour - 1) in
     line-there file (c .args .self .now .parties) layout (c .args .party) (c .args .side) (c .args .hour) _ (omega arith) (omega arith) (omega arith)
     (simp toZ-ofZ
-      (line-read file layout (c .args .side) line (c .item-at-quantities .result) (c .item-at-prices .result) (c .i64-at .result) (c .i64-at-2 .result) (c .kept .result)
-        (c .i64-at-3 .result) (c .i64-at-4 .result) (c .item-at-quantities .ensures .value) (c .item-at-prices .ensures .value) (c .i64-at .ensures) (c .i64-at-2 .ensures)
-        (simp toZ-ofZ at (c .kept .ensures)) (c .i64-at-3 .ensures) (c .i64-at-4 .ensures)))
+    (line-read file layout (c .args .side) line (c .item-at-quantities .result) (c .item-at-prices .result) (c .i64-at .result) (c .i64-at-2 .result) (c .kept .result)
+    (c .i64-at-3 .result) (c .i64-at-4 .result) (c .item-at-quantities .ensures .value) (c .item-at-prices .ensures .value) (c .i64-at .ensures) (c .i64-at-2 .ensures)
+    (simp toZ-ofZ at (c .kept .ensures)) (c .i64-at-3 .ensures) (c .i64-at-4 .ensures)))

@@ -22,18 +22,18 @@ pub returns-then-from-parties : need.returns-then-from-parties
 returns-then-from-parties c =
     let differ : byteAt (c .args .bytes .now) 5 ≡ c .args .parties → ⊥ = λ h. c .if-from-parties .taken (c .from .ensures ∙ c .byte-at-count .ensures ∙ h) in
     let e = miscounted (c .args .bytes .now) (c .args .parties) differ
-          ∙ by-count (c .args .bytes .now) (c .args .parties) (c .in-Continue-check-header .ensures tt) (c .in-Continue-layout .ensures tt .fault) in
+    ∙ by-count (c .args .bytes .now) (c .args .parties) (c .in-Continue-check-header .ensures tt) (c .in-Continue-layout .ensures tt .fault) in
     record { fault = e; exact = exact-structure (c .args .bytes .now) (c .args .parties) e; opened = tt; in-order = tt }
 
 pub returns : need.returns
 returns c =
     let same : byteAt (c .args .bytes .now) 5 ≡ c .args .parties = sym (c .byte-at-count .ensures) ∙ sym (c .from .ensures) ∙ c .if-from-parties .left in
     let e = counted (c .args .bytes .now) (c .args .parties) same
-          ∙ by-count (c .args .bytes .now) (c .args .parties) (c .in-Continue-check-header .ensures tt) (c .in-Continue-layout .ensures tt .fault) in
+    ∙ by-count (c .args .bytes .now) (c .args .parties) (c .in-Continue-check-header .ensures tt) (c .in-Continue-layout .ensures tt .fault) in
     let laid = c .in-Continue-layout .ensures tt .layout in
-    record
-    { fault = e
-    ; exact = exact-structure (c .args .bytes .now) (c .args .parties) e
-    ; opened = (refl, sym (c .from .ensures) ∙ c .if-from-parties .left, laid)
-    ; in-order = subst (InOrder (c .args .parties)) (sym laid) (in-order (c .args .bytes .now) (c .args .parties) (c .in-Continue-layout .ensures tt .fault) same)
+    record {
+      fault = e;
+      exact = exact-structure (c .args .bytes .now) (c .args .parties) e;
+      opened = (refl, sym (c .from .ensures) ∙ c .if-from-parties .left, laid);
+      in-order = subst (InOrder (c .args .parties)) (sym laid) (in-order (c .args .bytes .now) (c .args .parties) (c .in-Continue-layout .ensures tt .fault) same);
     }

@@ -14,7 +14,7 @@ pub returns-in-Break-slots : need.returns-in-Break-slots
 returns-in-Break-slots c =
     let p = err-from-errBy (c .from-residual .result) (c .from-residual .ensures .1) in
     let e = stopped (c .args .letters .now) (c .loop-index .index) (c .from .result) (c .in-Break-slots .field-0 .0) (c .from .ensures) (omega arith) (omega arith) (omega arith)
-          (c .loop-index .inv .0) (c .in-Break-slots .ensures tt) in
+    (c .loop-index .inv .0) (c .in-Break-slots .ensures tt) in
     rw (p .1, p .2) (record { fault = e; exact = exact-letters (c .args .letters .now) e; sides = tt })
 
 pub loop-index-again : need.loop-index-again
