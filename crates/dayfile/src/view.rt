@@ -5,6 +5,7 @@ use crate::bytes::byte_at;
 use crate::bytes::i64_at;
 use crate::contracts::contract_at;
 use crate::file::DayFile;
+use crate::parts::Layout;
 use crate::records::Contract;
 use crate::records::Line;
 use crate::scans::item_at;
@@ -49,7 +50,8 @@ impl DayFile<'_> {
     pub fn contract(&self, k: usize) -> Option<Contract>
         ensures { λ r. ⌜ r ≡ contractOf (now (now (self .entry) .bytes)) (now (self .entry) .layout) k ⌝ }
     {
-        if k >= self.layout.contract_count as usize {
+        let Layout { contract_count, .. } = self.layout;
+        if k >= contract_count as usize {
             return None;
         }
         let (contract, _) = contract_at(self.bytes, item_at(self.layout, Section::Contracts, k));

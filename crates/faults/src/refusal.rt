@@ -1,10 +1,22 @@
 ghost use mathlib.Core.Path.{_≡_};
-ghost use Rattle.faults.specs.Refusals.{pairOf, fileRefusal, recordRefusal, monthRefusal};
+ghost use Rattle.faults.specs.Refusals.{refused, pairOf, fileRefusal, recordRefusal, monthRefusal};
 use crate::answer::Refusal;
 use crate::causes::FileFault;
 use crate::causes::MonthFault;
 use crate::causes::RecordFault;
 use crate::causes::Section;
+
+impl Refusal {
+    fn new(layer: u8, number: u8, place: u64) -> Refusal
+        ensures { λ r. ⌜ r ≡ refused layer number place ⌝ }
+    {
+        Refusal {
+            layer,
+            number,
+            place,
+        }
+    }
+}
 
 impl Section {
     /// The number of the header's pair that says where the section lies: 1 to 3.
@@ -25,26 +37,10 @@ impl FileFault {
         ensures { λ r. ⌜ r ≡ fileRefusal self ⌝ }
     {
         match self {
-            FileFault::TooShort(length) => Refusal {
-                layer: 1,
-                number: 11,
-                place: length as u64,
-            },
-            FileFault::WrongByte(offset) => Refusal {
-                layer: 1,
-                number: 12,
-                place: offset as u64,
-            },
-            FileFault::OutOfOrder(section) => Refusal {
-                layer: 1,
-                number: 13,
-                place: section.pair(),
-            },
-            FileFault::WrongLength(section) => Refusal {
-                layer: 1,
-                number: 14,
-                place: section.pair(),
-            },
+            FileFault::TooShort(length) => Refusal::new(1, 11, length as u64),
+            FileFault::WrongByte(offset) => Refusal::new(1, 12, offset as u64),
+            FileFault::OutOfOrder(section) => Refusal::new(1, 13, section.pair()),
+            FileFault::WrongLength(section) => Refusal::new(1, 14, section.pair()),
         }
     }
 }
@@ -56,26 +52,10 @@ impl RecordFault {
     {
         match self {
             RecordFault::File(fault) => fault.refusal(),
-            RecordFault::PartyCount => Refusal {
-                layer: 2,
-                number: 15,
-                place: 5,
-            },
-            RecordFault::BeyondLimits(offset) => Refusal {
-                layer: 2,
-                number: 16,
-                place: offset as u64,
-            },
-            RecordFault::BuyerPrice(offset) => Refusal {
-                layer: 2,
-                number: 17,
-                place: offset as u64,
-            },
-            RecordFault::Contract(offset) => Refusal {
-                layer: 2,
-                number: 18,
-                place: offset as u64,
-            },
+            RecordFault::PartyCount => Refusal::new(2, 15, 5),
+            RecordFault::BeyondLimits(offset) => Refusal::new(2, 16, offset as u64),
+            RecordFault::BuyerPrice(offset) => Refusal::new(2, 17, offset as u64),
+            RecordFault::Contract(offset) => Refusal::new(2, 18, offset as u64),
         }
     }
 }
@@ -86,26 +66,10 @@ impl MonthFault {
         ensures { λ r. ⌜ r ≡ monthRefusal self ⌝ }
     {
         match self {
-            MonthFault::DayCount => Refusal {
-                layer: 3,
-                number: 2,
-                place: 1,
-            },
-            MonthFault::PartyCount => Refusal {
-                layer: 3,
-                number: 2,
-                place: 2,
-            },
-            MonthFault::ReferencePrice => Refusal {
-                layer: 3,
-                number: 2,
-                place: 3,
-            },
-            MonthFault::Letter(index) => Refusal {
-                layer: 3,
-                number: 3,
-                place: index as u64,
-            },
+            MonthFault::DayCount => Refusal::new(3, 2, 1),
+            MonthFault::PartyCount => Refusal::new(3, 2, 2),
+            MonthFault::ReferencePrice => Refusal::new(3, 2, 3),
+            MonthFault::Letter(index) => Refusal::new(3, 3, index as u64),
             MonthFault::Record(fault) => fault.refusal(),
         }
     }

@@ -10,7 +10,7 @@ const MAX_PRICE_MIL: i64 = 5_000_000;
 pub fn beyond_day_ahead(kwh: i64) -> bool
     ensures { λ r. ⌜ r ≡ beyondDayAhead kwh ⌝ }
 {
-    kwh < 0 || MAX_KWH < kwh
+    MAX_KWH < kwh || kwh < 0
 }
 
 /// Whether a reading is outside the limits of its side: 0 to 4,000,000 kWh, and for a seller down to −4,000,000.
