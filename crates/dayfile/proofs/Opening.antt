@@ -10,7 +10,7 @@ use Rattle.std.proofs.shelf.Tests.{ltb-false, or-parts, eqb-true, not-false, eq
 use Rattle.std.specs.Options.{orOther, mapped}
 use Rattle.std.specs.declared.option.Option.{Option}
 use Rattle.std.specs.declared.option.Option.the-variants.{Some, None}
-use Rattle.faults.specs.Rows.{first}
+use Rattle.faults.specs.Rows.{first, renamed}
 use Rattle.faults.specs.declared.causes.FileFault.{FileFault}
 use Rattle.faults.specs.declared.causes.RecordFault.{RecordFault}
 use Rattle.faults.specs.declared.causes.RecordFault.the-variants.{File, PartyCount}
@@ -19,14 +19,14 @@ use Rattle.faults.specs.declared.causes.Section.the-variants.{Quantities, NodeP
 use Rattle.dayfile.specs.Bytes.{byteAt}
 use Rattle.dayfile.specs.Layouts.{startOf, lengthOf, endOf, layoutIn}
 use Rattle.dayfile.specs.Records.{InOrder}
-use Rattle.dayfile.specs.Structure.{headerRows, sectionRows, structureRows, wrapped, countRow}
+use Rattle.dayfile.specs.Structure.{headerRows, sectionRows, structureRows, countRow}
 
 -- the header answers first, then the sections, then the party count
 parts : (file : List ℕ) (n : ℕ)
     → first (structureRows file n) ≡ orOther (mapped File (orOther (first (headerRows file)) (first (sectionRows file)))) (first (countRow file n))
 unfolding structureRows
 parts file n =
-    first-++ (map wrapped (headerRows file ++ sectionRows file)) (countRow file n)
+    first-++ (renamed File (headerRows file ++ sectionRows file)) (countRow file n)
     ∙ ap
     (λ o. orOther o (first (countRow file n)))
     (first-map File (headerRows file ++ sectionRows file) ∙ ap (mapped File) (first-++ (headerRows file) (sectionRows file)))

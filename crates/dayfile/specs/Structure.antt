@@ -1,6 +1,6 @@
 -- The structural check of a day's file: the rows of refusals 11 to 15, in the order in which they count.
 use mathlib.Core.Bool.{Bool, not, _||_}
-use mathlib.Core.List.{List, [], _∷_, _++_, map}
+use mathlib.Core.List.{List, [], _∷_, _++_}
 use Prim.Native.Nat.{ℕ, _+_, _*_, _%_}
 use lib.Dec.{eqb, ltb}
 use lib.ListN.{length}
@@ -10,6 +10,7 @@ use Rattle.faults.specs.declared.causes.FileFault.{FileFault}
 use Rattle.faults.specs.declared.causes.FileFault.the-variants.{TooShort, WrongByte, OutOfOrder, WrongLength}
 use Rattle.faults.specs.declared.causes.RecordFault.{RecordFault}
 use Rattle.faults.specs.declared.causes.RecordFault.the-variants.{File, PartyCount}
+use Rattle.faults.specs.Rows.{renamed}
 use Rattle.dayfile.specs.Bytes.{byteAt}
 use Rattle.dayfile.specs.Layouts.{startOf, lengthOf, endOf}
 
@@ -48,13 +49,10 @@ sectionRows file =
     orderRow file Quantities ++ orderRow file NodePrices ++ orderRow file Contracts
     ++ lengthRow file Quantities ++ lengthRow file NodePrices ++ lengthRow file Contracts
 
--- a file's fault as a record's
-abbrev pub wrapped : FileFault × Bool → RecordFault × Bool
-wrapped row = (File (row .0), row .1)
-
 -- 15: the party count in byte 5 is not the number of parties
 abbrev pub countRow : List ℕ → ℕ → List (RecordFault × Bool)
 countRow file parties = (PartyCount, not (eqb (byteAt file 5) parties)) ∷ []
 
+-- a file's fault is wrapped as a record's
 unfoldable pub structureRows : List ℕ → ℕ → List (RecordFault × Bool)
-structureRows file parties = map wrapped (headerRows file ++ sectionRows file) ++ countRow file parties
+structureRows file parties = renamed File (headerRows file ++ sectionRows file) ++ countRow file parties

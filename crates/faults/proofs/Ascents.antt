@@ -1,7 +1,7 @@
 -- Tables whose rows stand in the order of their refusals, so that the first row that holds is exactly the earliest.
 use mathlib.Core.Path.{_≡_, refl, sym, ap, _∙_, subst}
 use mathlib.Core.Bool.{Bool}
-use mathlib.Core.List.{List, [], _∷_, _++_, map}
+use mathlib.Core.List.{List, [], _∷_, _++_}
 use mathlib.Core.Logic.{_⊎_, inl, inr}
 use Prim.Native.Nat.{ℕ, zero, suc, _+_, _*_, _≤_, _<_}
 use native.Mathlib.Nat.{mul-suc, mul-zero}
@@ -11,7 +11,7 @@ use Rattle.std.specs.declared.option.Option.{Option}
 use Rattle.std.specs.declared.option.Option.the-variants.{Some, None}
 use Rattle.faults.specs.declared.answer.Refusal.{Refusal}
 use Rattle.faults.specs.Orders.{rank, Earlier}
-use Rattle.faults.specs.Rows.{first, rowsBelow, Holds, Earliest, Exact}
+use Rattle.faults.specs.Rows.{first, renamed, rowsBelow, Holds, Earliest, Exact}
 use Rattle.faults.proofs.Firsts.{Listed, Ascending, listed, no-first, exact}
 
 pub earlier-asym : (a b : Refusal) → Earlier a b → Earlier b a → ⊥
@@ -152,32 +152,29 @@ exact-behind {X} before xs ys answer none e =
 
 -- a table whose faults are named anew, the order being the same
 module _ {X Y : Type 0} (name : X → Y) (before : Y → Y → Type 0) where
-  abbrev pub renamed : List (X × Bool) → List (Y × Bool)
-  renamed rows = map (λ row. (name (row .0), row .1)) rows
-
-  holds-renamed : (rows : List (X × Bool)) (x : X) → Holds rows x → Holds (renamed rows) (name x)
+  holds-renamed : (rows : List (X × Bool)) (x : X) → Holds rows x → Holds (renamed name rows) (name x)
   holds-renamed [] x h = h
   holds-renamed (row ∷ rows) x (inl h) = inl (ap name (h .0), h .1)
   holds-renamed (row ∷ rows) x (inr h) = inr (holds-renamed rows x h)
 
-  named-before : (rows : List (X × Bool)) (y : Y) → Holds (renamed rows) y → (x : X) × (name x ≡ y) × Holds rows x
+  named-before : (rows : List (X × Bool)) (y : Y) → Holds (renamed name rows) y → (x : X) × (name x ≡ y) × Holds rows x
   named-before [] y h = absurd h
   named-before (row ∷ rows) y (inl h) = (row .0, h .0, inl (refl, h .1))
   named-before (row ∷ rows) y (inr h) = let found = named-before rows y h in (found .0, found .1, inr (found .2))
 
-  pub listed-renamed : (rows : List (X × Bool)) (y : Y) → Listed (renamed rows) y → (x : X) × (name x ≡ y)
+  pub listed-renamed : (rows : List (X × Bool)) (y : Y) → Listed (renamed name rows) y → (x : X) × (name x ≡ y)
   listed-renamed [] y h = absurd h
   listed-renamed (row ∷ rows) y (inl h) = (row .0, h)
   listed-renamed (row ∷ rows) y (inr h) = listed-renamed rows y h
 
-  pub exact-renamed : (rows : List (X × Bool)) (answer : Option X) → Exact (λ a b. before (name a) (name b)) rows answer → Exact before (renamed rows) (mapped name answer)
+  pub exact-renamed : (rows : List (X × Bool)) (answer : Option X) → Exact (λ a b. before (name a) (name b)) rows answer → Exact before (renamed name rows) (mapped name answer)
   exact-renamed rows answer e =
       record {
         none = λ is y h. let found = named-before rows y h in e .none (no-name answer is) (found .0) (found .2);
         some = λ y is.
             let found = some-name answer y is in
             let here = e .some (found .0) (found .2) in
-            subst (Earliest before (renamed rows)) (found .1) (
+            subst (Earliest before (renamed name rows)) (found .1) (
               holds-renamed rows (found .0) (here .0),
               λ z h b. let other = named-before rows z h in here .1 (other .0) (other .2) (subst (λ w. before w (name (found .0))) (sym (other .1)) b),
             );

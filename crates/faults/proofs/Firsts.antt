@@ -1,7 +1,7 @@
 -- Lemmas on the first row that holds.
 use mathlib.Core.Path.{_≡_, refl, sym, ap, _∙_, subst}
 use mathlib.Core.Bool.{Bool, true, false, cond}
-use mathlib.Core.List.{List, [], _∷_, _++_, map}
+use mathlib.Core.List.{List, [], _∷_, _++_}
 use mathlib.Core.Logic.{_⊎_, inl, inr}
 use Prim.Native.Nat.{ℕ, zero, suc, _+_, _-_, _≤_, _<_}
 use native.Mathlib.Numerals.{add-one}
@@ -10,7 +10,7 @@ use Rattle.std.proofs.shelf.Tests.{cases-lt, true≢false}
 use Rattle.std.specs.Options.{orOther, mapped}
 use Rattle.std.specs.declared.option.Option.{Option}
 use Rattle.std.specs.declared.option.Option.the-variants.{Some, None}
-use Rattle.faults.specs.Rows.{first, rowsBelow, Holds, Earliest, Exact}
+use Rattle.faults.specs.Rows.{first, renamed, rowsBelow, Holds, Earliest, Exact}
 
 -- the first of two tables, one after the other
 pub first-++ : {X : Type 0} (xs ys : List (X × Bool)) → first (xs ++ ys) ≡ orOther (first xs) (first ys)
@@ -19,7 +19,7 @@ first-++ {X} (x ∷ xs) ys =
     elim (x .1) as (λ b. cond b (Some (x .0)) (first (xs ++ ys)) ≡ orOther (cond b (Some (x .0)) (first xs)) (first ys)) [ true ↦ refl | false ↦ first-++ xs ys ]
 
 -- the first of a table after the faults are named anew
-pub first-map : {X Y : Type 0} (f : X → Y) (rows : List (X × Bool)) → first (map (λ row. (f (row .0), row .1)) rows) ≡ mapped f (first rows)
+pub first-map : {X Y : Type 0} (f : X → Y) (rows : List (X × Bool)) → first (renamed f rows) ≡ mapped f (first rows)
 first-map f [] = refl
 first-map f ((x, true) ∷ rows) = refl
 first-map f ((x, false) ∷ rows) = first-map f rows

@@ -1,7 +1,7 @@
 -- A check as a table of rows. A row is a fault and whether the fault is there; the rows stand in the order in which they count.
 use mathlib.Core.Path.{_≡_}
 use mathlib.Core.Bool.{Bool, true, false, cond}
-use mathlib.Core.List.{List, [], _∷_, _++_}
+use mathlib.Core.List.{List, [], _∷_, _++_, map}
 use mathlib.Core.Logic.{_⊎_}
 use Prim.Native.Nat.{ℕ, zero, suc}
 use Rattle.std.specs.declared.option.Option.{Option}
@@ -16,6 +16,10 @@ first (row ∷ rows) = cond (row .1) (Some (row .0)) (first rows)
 unfoldable pub rowsBelow : {X : Type 0} → (ℕ → List (X × Bool)) → ℕ → List (X × Bool)
 rowsBelow rows zero = []
 rowsBelow rows (suc n) = rowsBelow rows n ++ rows n
+
+-- the same rows with their faults named anew, as where one layer's fault is wrapped in another's
+abbrev pub renamed : {X Y : Type 0} → (X → Y) → List (X × Bool) → List (Y × Bool)
+renamed name rows = map (λ row. (name (row .0), row .1)) rows
 
 -- a row of the table holds and has this fault
 abbrev pub Holds : {X : Type 0} → List (X × Bool) → X → Type 0

@@ -1,7 +1,10 @@
 use mathlib.Core.Path.{_≡_, refl, sym, ap, _∙_, subst}
 use lib.ListN.{length}
 use Rattle.std.proofs.shelf.Results.{err-from-errBy}
+use Rattle.std.specs.declared.option.Option.the-variants.{Some}
+use Rattle.faults.specs.Rows.{first}
 use Rattle.dayfile.specs.Records.{InOrder}
+use Rattle.dayfile.specs.Structure.{structureRows}
 use Rattle.dayfile.proofs.Checking.{by-structure, by-records}
 use Rattle.dayfile.proofs.Ordering.{exact-broken, exact-file}
 use Rattle.dayfile.proofs.file.DayFile.accept.Needs as need
@@ -9,7 +12,8 @@ use Rattle.dayfile.proofs.file.DayFile.accept.Needs as need
 pub returns-in-Break-file : need.returns-in-Break-file
 returns-in-Break-file c =
     let p = err-from-errBy (c .from-residual .result) (c .from-residual .ensures .1) in
-    let e = c .in-Break-file .ensures tt .fault in
+    let broken = c .in-Break-file .ensures tt .fault in
+    let e : Some (c .in-Break-file .field-0 .0) ≡ first (structureRows (c .args .bytes .now) (length (c .args .sides .now))) = cc in
     rw (p .1, p .2)
     (record {
       fault = by-structure (c .args .bytes .now) (c .args .sides .now) (c .in-Break-file .field-0 .0) e;

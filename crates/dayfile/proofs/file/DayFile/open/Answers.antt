@@ -1,3 +1,4 @@
+use native.Mathlib.Omega.{arith}
 use mathlib.Core.Path.{_≡_, refl, sym, subst, _∙_}
 use Rattle.std.proofs.shelf.Results.{err-from-errBy}
 use Rattle.dayfile.specs.Bytes.{byteAt}
@@ -20,14 +21,15 @@ returns-in-Break-layout c =
 
 pub returns-then-from-parties : need.returns-then-from-parties
 returns-then-from-parties c =
-    let differ : byteAt (c .args .bytes .now) 5 ≡ c .args .parties → ⊥ = λ h. c .if-from-parties .taken (c .from .ensures ∙ c .byte-at-count .ensures ∙ h) in
+    let count : c .from .result ≡ byteAt (c .args .bytes .now) 5 = omega arith in
+    let differ : byteAt (c .args .bytes .now) 5 ≡ c .args .parties → ⊥ = λ h. c .if-from-parties .taken (count ∙ h) in
     let e = miscounted (c .args .bytes .now) (c .args .parties) differ
     ∙ by-count (c .args .bytes .now) (c .args .parties) (c .in-Continue-check-header .ensures tt) (c .in-Continue-layout .ensures tt .fault) in
     record { fault = e; exact = exact-structure (c .args .bytes .now) (c .args .parties) e; opened = tt; in-order = tt }
 
 pub returns : need.returns
 returns c =
-    let same : byteAt (c .args .bytes .now) 5 ≡ c .args .parties = sym (c .byte-at-count .ensures) ∙ sym (c .from .ensures) ∙ c .if-from-parties .left in
+    let same : byteAt (c .args .bytes .now) 5 ≡ c .args .parties = omega arith in
     let e = counted (c .args .bytes .now) (c .args .parties) same
     ∙ by-count (c .args .bytes .now) (c .args .parties) (c .in-Continue-check-header .ensures tt) (c .in-Continue-layout .ensures tt .fault) in
     let laid = c .in-Continue-layout .ensures tt .layout in
