@@ -1,3 +1,4 @@
+mod Accepting
 mod Checking
 mod Opening
 mod Ordering

@@ -4,6 +4,7 @@ ghost use Rattle.std.specs.Results.{errPart};
 ghost use Rattle.std.specs.Vec.{made};
 ghost use Rattle.faults.specs.Orders.{RecordEarlier};
 ghost use Rattle.faults.specs.Rows.{first, Exact};
+ghost use Rattle.dayfile.specs.Accepted.{Accepted};
 ghost use Rattle.dayfile.specs.Layouts.{layoutIn};
 ghost use Rattle.dayfile.specs.Records.{checkRows, fileRows, InOrder};
 use crate::file::DayFile;
@@ -17,6 +18,7 @@ impl<'a> DayFile<'a> {
     pub fn check(&self, sides: &[Side]) -> Result<(), RecordFault>
         ensures fault { λ r. ⌜ errPart r ≡ first (checkRows (now (now (self .entry) .bytes)) (now (self .entry) .parties) (now (self .entry) .layout) (now (sides .entry))) ⌝ }
         ensures exact { λ r. ⌜ (InOrder (now (self .entry) .parties) (now (self .entry) .layout) → Exact RecordEarlier (checkRows (now (now (self .entry) .bytes)) (now (self .entry) .parties) (now (self .entry) .layout) (now (sides .entry))) (errPart r)) ⌝ }
+        ensures accepted { λ r. ⌜ made r (λ _. Accepted (now (now (self .entry) .bytes)) (now (self .entry) .layout) (now (sides .entry))) ⌝ }
     {
         if usize::from(self.parties) != sides.len() {
             return Err(RecordFault::PartyCount);
@@ -31,6 +33,7 @@ impl<'a> DayFile<'a> {
         ensures fault { λ r. ⌜ errPart r ≡ first (fileRows (now (bytes .entry)) (now (sides .entry))) ⌝ }
         ensures exact { λ r. ⌜ Exact RecordEarlier (fileRows (now (bytes .entry)) (now (sides .entry))) (errPart r) ⌝ }
         ensures opened { λ r. ⌜ made r (λ f. (now (f .bytes) ≡ now (bytes .entry)) × (f .parties ≡ length (now (sides .entry))) × (f .layout ≡ layoutIn (now (bytes .entry)))) ⌝ }
+        ensures accepted { λ r. ⌜ made r (λ f. Accepted (now (f .bytes)) (f .layout) (now (sides .entry))) ⌝ }
     {
         let file = DayFile::open(bytes, sides.len())?;
         file.check(sides)?;

@@ -1,3 +1,7 @@
+ghost use mathlib.Core.Path.{_≡_};
+ghost use mathlib.Core.List.{[]};
+ghost use lib.Chars.{codes};
+
 /// A command of the script; its words as they stand there.
 #[derive(Clone, Copy)]
 pub(crate) enum Command<'a> {
@@ -40,6 +44,9 @@ pub(crate) fn request_of(words: &str) -> Request<'_> {
 }
 
 /// The bytes of kind letters; `-` stands for none.
-pub(crate) fn letters_of(word: &str) -> &[u8] {
+pub(crate) fn letters_of(word: &str) -> &[u8]
+    ensures dash { λ r. ⌜ (now (word .entry) ≡ codes "-" → now r ≡ []) ⌝ }
+    ensures letters { λ r. ⌜ ((now (word .entry) ≡ codes "-" → ⊥) → now r ≡ now (word .entry)) ⌝ }
+{
     if word == "-" { b"" } else { word.as_bytes() }
 }

@@ -52,6 +52,25 @@ below-found rows i n fault h none found = below-stays rows (suc i) n fault (let 
 pub below-step : {X : Type 0} (rows : ℕ → List (X × Bool)) (i : ℕ) → first (rowsBelow rows i) ≡ None → first (rows i) ≡ None → first (rowsBelow rows (i + 1)) ≡ None
 below-step rows i none here = rw add-one (below-more rows i none ∙ here)
 
+-- where no row of two tables holds, none of either does
+pub first-parts : {X : Type 0} (xs ys : List (X × Bool)) → None ≡ first (xs ++ ys) → (None ≡ first xs) × (None ≡ first ys)
+first-parts xs ys e = both (first xs) (first ys) (e ∙ first-++ xs ys)
+  where
+    both : {X : Type 0} (a b : Option X) → None ≡ orOther a b → (None ≡ a) × (None ≡ b)
+    both None b e = (refl, e)
+    both (Some x) b e = grind arith
+
+-- where no row of the items below n holds, none of any of them does
+pub below-clear : {X : Type 0} (rows : ℕ → List (X × Bool)) (n i : ℕ) → i < n → None ≡ first (rowsBelow rows n) → None ≡ first (rows i)
+unfolding rowsBelow
+below-clear rows zero i h e = absurd (let no : ⊥ = omega arith in no)
+below-clear rows (suc n) i h e =
+    let halves = first-parts (rowsBelow rows n) (rows n) e in
+    elim (cases-lt i n) [
+      | inl lt ↦ below-clear rows n i lt (halves .0)
+      | inr ge ↦ subst (λ k. None ≡ first (rows k)) (let same : n ≡ i = omega arith in same) (halves .1)
+    ]
+
 -- no row holds
 abbrev pub Clear : {X : Type 0} → List (X × Bool) → Type 0
 Clear [] = Unit {0}

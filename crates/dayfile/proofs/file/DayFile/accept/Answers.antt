@@ -5,6 +5,7 @@ use Rattle.std.specs.declared.option.Option.the-variants.{Some}
 use Rattle.faults.specs.Rows.{first}
 use Rattle.dayfile.specs.Records.{InOrder}
 use Rattle.dayfile.specs.Structure.{structureRows}
+use Rattle.dayfile.proofs.Accepting.{check-accepted}
 use Rattle.dayfile.proofs.Checking.{by-structure, by-records}
 use Rattle.dayfile.proofs.Ordering.{exact-broken, exact-file}
 use Rattle.dayfile.proofs.file.DayFile.accept.Needs as need
@@ -19,6 +20,7 @@ returns-in-Break-file c =
       fault = by-structure (c .args .bytes .now) (c .args .sides .now) (c .in-Break-file .field-0 .0) e;
       exact = exact-broken (c .args .bytes .now) (c .args .sides .now) (c .in-Break-file .field-0 .0) e;
       opened = tt;
+      accepted = tt;
     })
 
 pub returns-in-Break-check : need.returns-in-Break-check
@@ -32,6 +34,7 @@ returns-in-Break-check c =
       fault = e;
       exact = exact-file (c .args .bytes .now) (c .args .sides .now) e (subst (InOrder (length (c .args .sides .now))) (made .opened .2) (made .in-order));
       opened = tt;
+      accepted = tt;
     })
 
 pub returns : need.returns
@@ -43,4 +46,5 @@ returns c =
       fault = e;
       exact = exact-file (c .args .bytes .now) (c .args .sides .now) e (subst (InOrder (length (c .args .sides .now))) (made .opened .2) (made .in-order));
       opened = made .opened;
+      accepted = check-accepted (f .bytes .now) (f .parties) (f .layout) (c .args .sides .now) (c .in-Continue-check .ensures tt .fault);
     }
