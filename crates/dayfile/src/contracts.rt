@@ -13,6 +13,7 @@ use crate::bytes::i64_at;
 use crate::bytes::u32_at;
 use crate::records::Contract;
 use faults::RecordFault;
+use market::MAX_KWH;
 use market::Side;
 use market::beyond_price;
 
@@ -96,7 +97,7 @@ fn wrong_terms(contract: Contract) -> bool
         price,
         ..
     } = contract;
-    hour < 1 || 24 < hour || kwh < 1 || 4_000_000 < kwh || beyond_price(price)
+    hour < 1 || 24 < hour || kwh < 1 || MAX_KWH < kwh || beyond_price(price)
 }
 
 /// A contract that keeps every rule, or refusal 18.

@@ -6,6 +6,7 @@ mod limits;
 
 pub use kinds::Side;
 pub use kinds::Sides;
+pub use limits::MAX_KWH;
 pub use limits::beyond_day_ahead;
 pub use limits::beyond_metered;
 pub use limits::beyond_price;

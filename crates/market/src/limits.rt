@@ -2,8 +2,10 @@ ghost use mathlib.Core.Path.{_≡_};
 ghost use Rattle.market.specs.Limits.{beyondDayAhead, beyondMetered, beyondPrice, keptOf};
 use crate::kinds::Side;
 
-const MAX_KWH: i64 = 4_000_000;
+/// The most energy of a party in an hour, and of a contract.
+pub const MAX_KWH: i64 = 4_000_000;
 
+/// The highest price; the lowest is its negative.
 const MAX_PRICE_MIL: i64 = 5_000_000;
 
 /// Whether day-ahead energy is outside 0 to 4,000,000 kWh.
