@@ -22,7 +22,7 @@ use Rattle.dayfile.specs.declared.records.Line.{Line}
 use Rattle.market.specs.Limits.{keptOf}
 use Rattle.dayfile.specs.Bytes.{signedAt}
 use Rattle.dayfile.specs.Layouts.{layoutIn}
-use Rattle.dayfile.specs.Records.{partRows, recordRows, checkRows, fileRows, itemAt, lineIn, lineOf}
+use Rattle.dayfile.specs.Records.{partRows, recordRows, checkRows, fileRows, InOrder, itemAt, lineIn, lineOf}
 use Rattle.dayfile.specs.Structure.{structureRows}
 
 -- where the sides are as many as the parties, the records answer, section by section
@@ -62,6 +62,10 @@ by-records file bytes parties layout sides b p l none e =
     e ∙ ap (λ t. cond (not t) (Some PartyCount) (first (recordRows bytes layout sides))) (eq-eqb parties (length sides) p)
     ∙ ap (λ x. first (recordRows x layout sides)) b ∙ ap (λ x. first (recordRows file x sides)) l
     ∙ sym (first-++ (structureRows file (length sides)) (recordRows file (layoutIn file) sides) ∙ ap (λ o. orOther o (first (recordRows file (layoutIn file) sides))) (sym none))
+
+-- a view of a file has the file's order
+pub laid-out : {file bytes : List ℕ} {parties : ℕ} {layout : Layout} → bytes ≡ file → layout ≡ layoutIn file → InOrder bytes parties layout → InOrder file parties (layoutIn file)
+laid-out {file} {bytes} {parties} {layout} b l laid = subst (InOrder file parties) l (subst (λ xs. InOrder xs parties layout) b laid)
 
 -- a line that is there
 pub line-there : (file : List ℕ) (parties : ℕ) (layout : Layout) (party : ℕ) (side : Side) (hour : ℕ) (line : Line) → party < parties → 1 ≤ hour → hour ≤ 24

@@ -2,7 +2,7 @@
 use mathlib.Core.Path.{_≡_, refl, sym, ap, _∙_}
 use mathlib.Core.Bool.{Bool, not, cond}
 use mathlib.Core.List.{List, [], _∷_, _++_, map}
-use Prim.Native.Nat.{ℕ, _+_, _*_, _≤_}
+use Prim.Native.Nat.{ℕ, _+_, _*_, _/_, _≤_}
 use native.Mathlib.Omega.{arith}
 use lib.Dec.{eqb}
 use lib.ListN.{length, getD}
@@ -31,8 +31,13 @@ parts file n =
     (λ o. orOther o (first (countRow file n)))
     (first-map File (headerRows file ++ sectionRows file) ∙ ap (mapped File) (first-++ (headerRows file) (sectionRows file)))
 
-following : (a la b lb c m n : ℕ) → a + la ≤ b → b + lb ≤ c → la ≡ 192 * m → lb ≡ 192 * m → m ≡ n → (a + 192 * n ≤ b) × (b + 192 * n ≤ c)
-following a la b lb c m n p q e f h = (omega arith, omega arith)
+-- a section of so many bytes that ends where the next starts, or before
+following : (start bytes next m n : ℕ) → start + bytes ≤ next → bytes ≡ 192 * m → m ≡ n → start + 192 * n ≤ next
+following start bytes next m n p e h = omega arith
+
+-- whole contracts take no more bytes than their section has
+within : (start bytes most : ℕ) → start + bytes ≤ most → start + 12 * (bytes / 12) ≤ most
+within start bytes most p = omega arith
 
 pub by-header : (file : List ℕ) (n : ℕ) (fault : FileFault) → Some fault ≡ first (headerRows file) → Some (File fault) ≡ first (structureRows file n)
 by-header file n fault e =
@@ -52,15 +57,19 @@ by-count file n h s =
     ∙ ap (λ o. orOther (mapped File o) (first (countRow file n))) (sym s))
 
 -- sections that the check lets pass stand one after the other
-pub in-order : (file : List ℕ) (n : ℕ) → None ≡ first (sectionRows file) → byteAt file 5 ≡ n → InOrder n (layoutIn file)
+pub in-order : (file : List ℕ) (n : ℕ) → None ≡ first (sectionRows file) → byteAt file 5 ≡ n → InOrder file n (layoutIn file)
 in-order file n none count =
     let clear = all-clear (sectionRows file) none in
     let second = ltb-false (startOf file NodePrices) (endOf file Quantities) (or-parts _ _ (clear .1 .0) .0) in
     let third = ltb-false (startOf file Contracts) (endOf file NodePrices) (or-parts _ _ (clear .1 .1 .0) .0) in
     let first-long = eqb-true (lengthOf file Quantities) (192 * byteAt file 5) (not-false _ (clear .1 .1 .1 .0)) in
     let second-long = eqb-true (lengthOf file NodePrices) (192 * byteAt file 5) (not-false _ (clear .1 .1 .1 .1 .0)) in
-    following (startOf file Quantities) (lengthOf file Quantities) (startOf file NodePrices) (lengthOf file NodePrices) (startOf file Contracts) (byteAt file 5) n
-    second third first-long second-long count
+    let last = ltb-false (length file) (endOf file Contracts) (or-parts _ _ (clear .1 .1 .0) .1) in
+    record {
+      quantities = following (startOf file Quantities) (lengthOf file Quantities) (startOf file NodePrices) (byteAt file 5) n second first-long count;
+      prices = following (startOf file NodePrices) (lengthOf file NodePrices) (startOf file Contracts) (byteAt file 5) n third second-long count;
+      contracts = within (startOf file Contracts) (lengthOf file Contracts) (length file) last;
+    }
 
 pub miscounted : (file : List ℕ) (n : ℕ) → (byteAt file 5 ≡ n → ⊥) → Some PartyCount ≡ first (countRow file n)
 miscounted file n h = ap (λ b. cond (not b) (Some PartyCount) None) (sym (ne-eqb (byteAt file 5) n h))

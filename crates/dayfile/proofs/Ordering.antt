@@ -138,7 +138,7 @@ widened : (low high least most : ℕ) (rows : List (RecordFault × Bool)) → le
 widened low high least most rows a b = each-weaker (Placed recordRefusal 16 low high) (Placed recordRefusal 16 least most) rows (λ x p. (p .0, omega arith, omega arith))
 
 -- where the sections stand one after the other, so do their rows
-records-ascend : (file : List ℕ) (layout : Layout) (sides : List Side) → InOrder (length sides) layout → Ascending RecordEarlier (recordRows file layout sides)
+records-ascend : (file : List ℕ) (layout : Layout) (sides : List Side) → InOrder file (length sides) layout → Ascending RecordEarlier (recordRows file layout sides)
 unfolding recordRows
 records-ascend file layout sides laid =
     let q = layout .quantities in
@@ -171,11 +171,11 @@ exact-count file parties layout sides differ =
     PartyCount (ap (λ b. cond b (Some PartyCount) None) differ)
 
 pub exact-check : (file : List ℕ) (parties : ℕ) (layout : Layout) (sides : List Side) {answer : Option RecordFault} → answer ≡ first (checkRows file parties layout sides)
-    → parties ≡ length sides → InOrder parties layout → Exact RecordEarlier (checkRows file parties layout sides) answer
+    → parties ≡ length sides → InOrder file parties layout → Exact RecordEarlier (checkRows file parties layout sides) answer
 exact-check file parties layout sides e same laid =
     subst (Exact RecordEarlier (checkRows file parties layout sides)) (sym e)
     (exact-refusal recordRefusal (checkRows file parties layout sides)
-    (λ g l. before-records file layout sides PartyCount g (lit< tt) l, records-ascend file layout sides (subst (λ n. InOrder n layout) same laid)))
+    (λ g l. before-records file layout sides PartyCount g (lit< tt) l, records-ascend file layout sides (subst (λ n. InOrder file n layout) same laid)))
 
 structure-apart : (file : List ℕ) (sides : List Side) (f g : RecordFault) → Listed (structureRows file (length sides)) f → Listed (recordRows file (layoutIn file) sides) g → RecordEarlier f g
 structure-apart file sides f g l r =
@@ -188,7 +188,7 @@ exact-broken file sides fault e =
     exact-front recordRefusal (structureRows file (length sides)) (recordRows file (layoutIn file) sides) (structure-ascends file (length sides)) (structure-apart file sides) fault (sym e)
 
 pub exact-file : (file : List ℕ) (sides : List Side) {answer : Option RecordFault} → answer ≡ first (fileRows file sides)
-    → InOrder (length sides) (layoutIn file) → Exact RecordEarlier (fileRows file sides) answer
+    → InOrder file (length sides) (layoutIn file) → Exact RecordEarlier (fileRows file sides) answer
 exact-file file sides e laid =
     subst (Exact RecordEarlier (fileRows file sides)) (sym e)
     (exact-refusal recordRefusal (fileRows file sides)

@@ -127,6 +127,8 @@ checkRows file parties layout sides = (faults.PartyCount, not (eqb parties (leng
 abbrev pub fileRows : List ℕ → List Side → List (RecordFault × Bool)
 fileRows file sides = structureRows file (length sides) ++ recordRows file (layoutIn file) sides
 
--- the sections of a file for so many parties stand one after the other
-abbrev pub InOrder : ℕ → Layout → Type 0
-InOrder parties layout = (layout .quantities + 192 * parties ≤ layout .prices) × (layout .prices + 192 * parties ≤ layout .contracts)
+-- the sections of a file for so many parties stand one after the other, and the last ends within the file
+pub record InOrder (file : List ℕ) (parties : ℕ) (layout : Layout) : Type 0 where
+  pub quantities : layout .quantities + 192 * parties ≤ layout .prices
+  pub prices : layout .prices + 192 * parties ≤ layout .contracts
+  pub contracts : layout .contracts + 12 * layout .«contract_count» ≤ length file

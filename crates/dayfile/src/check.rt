@@ -17,7 +17,7 @@ impl<'a> DayFile<'a> {
     /// The check of the records for parties of these sides: the first fault of 16 to 18 by its offset, or 15 where the file has another number of parties.
     pub fn check(&self, sides: &[Side]) -> Result<(), RecordFault>
         ensures fault { λ r. ⌜ errPart r ≡ first (checkRows (now (now (self .entry) .bytes)) (now (self .entry) .parties) (now (self .entry) .layout) (now (sides .entry))) ⌝ }
-        ensures exact { λ r. ⌜ (InOrder (now (self .entry) .parties) (now (self .entry) .layout) → Exact RecordEarlier (checkRows (now (now (self .entry) .bytes)) (now (self .entry) .parties) (now (self .entry) .layout) (now (sides .entry))) (errPart r)) ⌝ }
+        ensures exact { λ r. ⌜ (InOrder (now (now (self .entry) .bytes)) (now (self .entry) .parties) (now (self .entry) .layout) → Exact RecordEarlier (checkRows (now (now (self .entry) .bytes)) (now (self .entry) .parties) (now (self .entry) .layout) (now (sides .entry))) (errPart r)) ⌝ }
         ensures accepted { λ r. ⌜ made r (λ _. Accepted (now (now (self .entry) .bytes)) (now (self .entry) .layout) (now (sides .entry))) ⌝ }
     {
         if usize::from(self.parties) != sides.len() {
@@ -33,6 +33,7 @@ impl<'a> DayFile<'a> {
         ensures fault { λ r. ⌜ errPart r ≡ first (fileRows (now (bytes .entry)) (now (sides .entry))) ⌝ }
         ensures exact { λ r. ⌜ Exact RecordEarlier (fileRows (now (bytes .entry)) (now (sides .entry))) (errPart r) ⌝ }
         ensures opened { λ r. ⌜ made r (λ f. (now (f .bytes) ≡ now (bytes .entry)) × (f .parties ≡ length (now (sides .entry))) × (f .layout ≡ layoutIn (now (bytes .entry)))) ⌝ }
+        ensures in_order { λ r. ⌜ made r (λ f. InOrder (now (f .bytes)) (f .parties) (f .layout)) ⌝ }
         ensures accepted { λ r. ⌜ made r (λ f. Accepted (now (f .bytes)) (f .layout) (now (sides .entry))) ⌝ }
     {
         let file = DayFile::open(bytes, sides.len())?;

@@ -19,7 +19,7 @@ impl<'a> DayFile<'a> {
         ensures fault { λ r. ⌜ errPart r ≡ first (structureRows (now (bytes .entry)) parties) ⌝ }
         ensures exact { λ r. ⌜ Exact RecordEarlier (structureRows (now (bytes .entry)) parties) (errPart r) ⌝ }
         ensures opened { λ r. ⌜ made r (λ f. (now (f .bytes) ≡ now (bytes .entry)) × (f .parties ≡ parties) × (f .layout ≡ layoutIn (now (bytes .entry)))) ⌝ }
-        ensures in_order { λ r. ⌜ made r (λ f. InOrder parties (f .layout)) ⌝ }
+        ensures in_order { λ r. ⌜ made r (λ f. InOrder (now (f .bytes)) parties (f .layout)) ⌝ }
     {
         check_header(bytes)?;
         let layout = layout_of(bytes)?;

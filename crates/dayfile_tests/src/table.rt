@@ -6,6 +6,7 @@ use crate::damage::Damage::Cut;
 use crate::damage::Damage::Nothing;
 use crate::damage::Damage::Word;
 use crate::damage::answer;
+use std::alloc::Global;
 use std::test::*;
 
 /// Two parties, one contract: 812 bytes, the quantities from 32, the prices from 416, the contract at 800.
@@ -208,50 +209,40 @@ const CONTRACTS: [Case; 18] = [
     ),
 ];
 
-#[test]
-fn header_and_length(rt: LibcRuntime) -> Result<(), Fail> {
-    for case in &HEADER {
-        check_eq(answer(rt.alloc(), *case)?, case.4)?;
+/// Each case of a table has the answer wanted.
+fn hold(heap: Global, cases: &[Case]) -> Result<(), Fail> {
+    for case in cases {
+        check_eq(answer(heap, *case)?, case.4)?;
     }
     Ok(())
+}
+
+#[test]
+fn header_and_length(rt: LibcRuntime) -> Result<(), Fail> {
+    hold(rt.alloc(), &HEADER)
 }
 
 #[test]
 fn letters_come_first(rt: LibcRuntime) -> Result<(), Fail> {
-    for case in &LETTERS {
-        check_eq(answer(rt.alloc(), *case)?, case.4)?;
-    }
-    Ok(())
+    hold(rt.alloc(), &LETTERS)
 }
 
 #[test]
 fn sections_in_order(rt: LibcRuntime) -> Result<(), Fail> {
-    for case in &ORDER {
-        check_eq(answer(rt.alloc(), *case)?, case.4)?;
-    }
-    Ok(())
+    hold(rt.alloc(), &ORDER)
 }
 
 #[test]
 fn section_lengths(rt: LibcRuntime) -> Result<(), Fail> {
-    for case in &LENGTHS {
-        check_eq(answer(rt.alloc(), *case)?, case.4)?;
-    }
-    Ok(())
+    hold(rt.alloc(), &LENGTHS)
 }
 
 #[test]
 fn quantities_and_prices(rt: LibcRuntime) -> Result<(), Fail> {
-    for case in &NUMBERS {
-        check_eq(answer(rt.alloc(), *case)?, case.4)?;
-    }
-    Ok(())
+    hold(rt.alloc(), &NUMBERS)
 }
 
 #[test]
 fn contract_records(rt: LibcRuntime) -> Result<(), Fail> {
-    for case in &CONTRACTS {
-        check_eq(answer(rt.alloc(), *case)?, case.4)?;
-    }
-    Ok(())
+    hold(rt.alloc(), &CONTRACTS)
 }

@@ -6,7 +6,7 @@ use Rattle.faults.specs.Rows.{first}
 use Rattle.dayfile.specs.Records.{InOrder}
 use Rattle.dayfile.specs.Structure.{structureRows}
 use Rattle.dayfile.proofs.Accepting.{check-accepted}
-use Rattle.dayfile.proofs.Checking.{by-structure, by-records}
+use Rattle.dayfile.proofs.Checking.{by-structure, by-records, laid-out}
 use Rattle.dayfile.proofs.Ordering.{exact-broken, exact-file}
 use Rattle.dayfile.proofs.file.DayFile.accept.Needs as need
 
@@ -20,6 +20,7 @@ returns-in-Break-file c =
       fault = by-structure (c .args .bytes .now) (c .args .sides .now) (c .in-Break-file .field-0 .0) e;
       exact = exact-broken (c .args .bytes .now) (c .args .sides .now) (c .in-Break-file .field-0 .0) e;
       opened = tt;
+      in-order = tt;
       accepted = tt;
     })
 
@@ -32,8 +33,9 @@ returns-in-Break-check c =
     rw (p .1, p .2)
     (record {
       fault = e;
-      exact = exact-file (c .args .bytes .now) (c .args .sides .now) e (subst (InOrder (length (c .args .sides .now))) (made .opened .2) (made .in-order));
+      exact = exact-file (c .args .bytes .now) (c .args .sides .now) e (laid-out (made .opened .0) (made .opened .2) (made .in-order));
       opened = tt;
+      in-order = tt;
       accepted = tt;
     })
 
@@ -44,7 +46,8 @@ returns c =
     let e = by-records (c .args .bytes .now) (f .bytes .now) (f .parties) (f .layout) (c .args .sides .now) (made .opened .0) (made .opened .1) (made .opened .2) (made .fault) (c .in-Continue-check .ensures tt .fault) in
     record {
       fault = e;
-      exact = exact-file (c .args .bytes .now) (c .args .sides .now) e (subst (InOrder (length (c .args .sides .now))) (made .opened .2) (made .in-order));
+      exact = exact-file (c .args .bytes .now) (c .args .sides .now) e (laid-out (made .opened .0) (made .opened .2) (made .in-order));
       opened = made .opened;
+      in-order = subst (λ n. InOrder (f .bytes .now) n (f .layout)) (sym (made .opened .1)) (made .in-order);
       accepted = check-accepted (f .bytes .now) (f .parties) (f .layout) (c .args .sides .now) (c .in-Continue-check .ensures tt .fault);
     }

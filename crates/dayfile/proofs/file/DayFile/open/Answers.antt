@@ -37,5 +37,5 @@ returns c =
       fault = e;
       exact = exact-structure (c .args .bytes .now) (c .args .parties) e;
       opened = (refl, sym (c .from .ensures) ∙ c .if-from-parties .left, laid);
-      in-order = subst (InOrder (c .args .parties)) (sym laid) (in-order (c .args .bytes .now) (c .args .parties) (c .in-Continue-layout .ensures tt .fault) same);
+      in-order = subst (InOrder (c .args .bytes .now) (c .args .parties)) (sym laid) (in-order (c .args .bytes .now) (c .args .parties) (c .in-Continue-layout .ensures tt .fault) same);
     }
