@@ -1,5 +1,7 @@
 //! The amounts of a party's hour under a rule book, and the bills of the two provinces' books by their own formulas.
 
+#![tactic(auto)]
+
 mod asking;
 mod hours;
 mod provinces;

@@ -1,5 +1,7 @@
 //! Rule books: what contracts and hours cost.
 
+#![tactic(auto)]
+
 mod book;
 mod either;
 mod three_part;

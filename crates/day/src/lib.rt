@@ -1,5 +1,7 @@
 //! One day settled: charges and funds.
 
+#![tactic(auto)]
+
 mod contracts;
 mod funds;
 mod settle;

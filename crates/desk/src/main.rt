@@ -1,6 +1,8 @@
 //! The settlement desk: runs a text script, one command to a line, and prints one answer line for each command.
 //! The script is the file named as the first argument, or standard input.
 
+#![tactic(auto)]
+
 mod amounts;
 mod command;
 mod divide;

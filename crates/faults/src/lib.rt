@@ -1,5 +1,7 @@
 //! Why a file, a record or a call is refused: the layer, the number and the place of each refusal.
 
+#![tactic(auto)]
+
 mod answer;
 mod causes;
 mod refusal;

@@ -1,5 +1,7 @@
 //! Journal lines.
 
+#![tactic(auto)]
+
 mod journal;
 
 pub use journal::{Cause, Entry};

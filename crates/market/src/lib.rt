@@ -1,5 +1,7 @@
 //! The parties of a market, its records and the limits of its numbers.
 
+#![tactic(auto)]
+
 mod either;
 mod kinds;
 mod letters;

@@ -1,5 +1,7 @@
 //! Rounding to the fen, and the tally over records that have an amount.
 
+#![tactic(auto)]
+
 mod amounts;
 mod rounding;
 mod tallies;

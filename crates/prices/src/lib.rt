@@ -1,5 +1,7 @@
 //! The unified prices of a day's hours.
 
+#![tactic(auto)]
+
 mod borrowing;
 mod hours;
 mod kinds;

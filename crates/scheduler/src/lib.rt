@@ -1,5 +1,7 @@
 //! The scheduler's check of a day's file: the kind letters first, then the file for parties of these sides.
 
+#![tactic(auto)]
+
 ghost use Rattle.std.specs.Prelude.{◌≡◌};
 ghost use Rattle.std.specs.Result.{result_err};
 ghost use Rattle.faults.specs.Orders.{MonthEarlier};

@@ -1,5 +1,7 @@
 //! A fund shared among parties by weight, to the fen.
 
+#![tactic(auto)]
+
 mod division;
 mod either;
 mod limits;

@@ -1,5 +1,7 @@
 //! Tests of funds divided among parties; and a third sharing rule, written against the trait alone.
 
+#![tactic(auto)]
+
 #[cfg(test)]
 mod answers;
 #[cfg(test)]

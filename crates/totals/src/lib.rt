@@ -1,5 +1,7 @@
 //! What a day's file adds up to: a party's energy of the day, and the hours in which no seller ran.
 
+#![tactic(auto)]
+
 mod energy;
 mod sums;
 

@@ -3,14 +3,14 @@ use Rattle.std.proofs.lemmas.Result.{err_from_is_err_and}
 use Rattle.sharing.proofs.Dividing.{refused_weights, refused_product, fund_within, accepted}
 use Rattle.sharing.proofs.division.check_fund.Goals as goal
 
-pub returns-in-err-check-weights : goal.returns-in-err-check-weights
-returns-in-err-check-weights g c =
-    let p = err_from_is_err_and c.from-residual.result c.from-residual.ensures.1 in
+pub returns-in_err-check-weights : goal.returns-in_err-check-weights
+returns-in_err-check-weights g c =
+    let p = err_from_is_err_and c.from_residual.result c.from_residual.ensures.1 in
     let counted : List ℕ = g.R.SharingRule.counted c.args.rule.now c.args.given.now in
     rw
     (p.1, p.2)
     (record {
-      refusal = refused_weights c.args.given.now counted c.args.size c.in-err-check-weights.field-0.0 c.in-err-check-weights.ensures.refusal;
+      refusal = refused_weights c.args.given.now counted c.args.size c.in_err-check-weights.field-0.0 c.in_err-check-weights.ensures.refusal;
       total = tt;
       some = tt;
       weights = tt;
@@ -22,7 +22,7 @@ returns-then-size-total g c =
     let counted : List ℕ = g.R.SharingRule.counted c.args.rule.now c.args.given.now in
     record {
       refusal = refused_product c.args.given.now counted c.args.size c.counted-total-total.result c.counted-total-total.ensures.value c.counted-total-total.ensures.some
-          c.in-ok-check-weights.ensures.refusal c.if-size-total.true;
+          c.in_ok-check-weights.ensures.refusal c.if-size-total.true;
       total = tt;
       some = tt;
       weights = tt;
@@ -34,9 +34,9 @@ returns g c =
     let counted : List ℕ = g.R.SharingRule.counted c.args.rule.now c.args.given.now in
     let total = c.counted-total-total.ensures in
     record {
-      refusal = accepted c.args.given.now counted c.args.size c.counted-total-total.result total.value c.in-ok-check-weights.ensures.refusal c.if-size-total.false;
+      refusal = accepted c.args.given.now counted c.args.size c.counted-total-total.result total.value c.in_ok-check-weights.ensures.refusal c.if-size-total.false;
       total = total.value;
       some = total.some;
-      weights = c.in-ok-check-weights.ensures.fit;
+      weights = c.in_ok-check-weights.ensures.fit;
       fund = fund_within c.args.given.now counted c.args.size c.counted-total-total.result total.value c.if-size-total.false;
     }

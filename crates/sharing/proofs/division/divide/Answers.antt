@@ -7,15 +7,15 @@ use Rattle.sharing.specs.Limits.{Shareable, most_parties}
 use Rattle.sharing.proofs.Dividing.{size_within, adds_up, near_parts}
 use Rattle.sharing.proofs.division.divide.Goals as goal
 
-pub returns-in-err-check-fund : goal.returns-in-err-check-fund
-returns-in-err-check-fund g c =
-    let p = err_from_is_err_and c.from-residual.result c.from-residual.ensures.1 in
+pub returns-in_err-check-fund : goal.returns-in_err-check-fund
+returns-in_err-check-fund g c =
+    let p = err_from_is_err_and c.from_residual.result c.from_residual.ensures.1 in
     let size = c.unsigned-abs-size.ensures.value ∙ ap nat_abs (to_z-of_z w64 c.args.fund c.ranges.fund) in
     let counted : List ℕ = g.R.SharingRule.counted c.args.rule.now c.args.given.now in
     rw
     (p.1, p.2)
     (record {
-      refusal = c.in-err-check-fund.ensures.refusal ∙ ap (unshareable c.args.given.now counted) size;
+      refusal = c.in_err-check-fund.ensures.refusal ∙ ap (unshareable c.args.given.now counted) size;
       shares = tt;
       adds = tt;
       near = tt;
@@ -23,7 +23,7 @@ returns-in-err-check-fund g c =
 
 pub share-all-requires : goal.share-all-requires
 share-all-requires g c =
-    let fit = c.in-ok-check-fund.ensures in
+    let fit = c.in_ok-check-fund.ensures in
     record {
       weights = fit.weights;
       fund = fit.fund;
@@ -33,7 +33,7 @@ share-all-requires g c =
 pub signed-shares-requires : goal.signed-shares-requires
 signed-shares-requires g c =
     let given = c.args.given.now in
-    let fit = c.in-ok-check-fund.ensures in
+    let fit = c.in_ok-check-fund.ensures in
     let law = g.met.R.SharingRule in
     let long = law.complete c.args.rule.now given c.unsigned-abs-size.result fit.weights fit.fund in
     let adds = law.adds c.args.rule.now given c.unsigned-abs-size.result fit.weights fit.fund in
@@ -50,7 +50,7 @@ returns g c =
     let fund : ℤ = c.args.fund in
     let same = to_z-of_z w64 fund c.ranges.fund in
     let size = c.unsigned-abs-size.ensures.value ∙ ap nat_abs same in
-    let fit = c.in-ok-check-fund.ensures in
+    let fit = c.in_ok-check-fund.ensures in
     let weights = fit.weights in
     let counted : List ℕ = g.R.SharingRule.counted rule given in
     let sizes : List ℕ = g.R.SharingRule.shares rule given (nat_abs fund) in

@@ -20,31 +20,31 @@ returns-then-from-sides c =
       accepted = tt;
     }
 
-pub returns-in-err-scan : goal.returns-in-err-scan
-returns-in-err-scan c =
+pub returns-in_err-scan : goal.returns-in_err-scan
+returns-in_err-scan c =
     let f = c.args.self.now in
-    let p = err_from_is_err_and c.from-residual.result c.from-residual.ensures.1 in
+    let p = err_from_is_err_and c.from_residual.result c.from_residual.ensures.1 in
     let same : f.parties ≡ length c.args.sides.now = omega arith in
-    let e = by_quantities f.bytes.now f.parties f.layout c.args.sides.now same c.in-err-scan.field-0.0 c.in-err-scan.ensures in
+    let e = by_quantities f.bytes.now f.parties f.layout c.args.sides.now same c.in_err-scan.field-0.0 c.in_err-scan.ensures in
     rw (p.1, p.2) (record { fault = e; exact = exact_check f.bytes.now f.parties f.layout c.args.sides.now e same; accepted = tt })
 
-pub returns-in-err-scan-2 : goal.returns-in-err-scan-2
-returns-in-err-scan-2 c =
+pub returns-in_err-scan-2 : goal.returns-in_err-scan-2
+returns-in_err-scan-2 c =
     let f = c.args.self.now in
-    let p = err_from_is_err_and c.from-residual-in-err-scan-2.result c.from-residual-in-err-scan-2.ensures.1 in
+    let p = err_from_is_err_and c.from_residual-in_err-scan-2.result c.from_residual-in_err-scan-2.ensures.1 in
     let same : f.parties ≡ length c.args.sides.now = omega arith in
-    let quantities = c.in-ok-scan.ensures in
-    let found = c.in-err-scan-2.ensures in
-    let prices : Some c.in-err-scan-2.field-0.0 ≡ first (part_rows f.bytes.now f.layout c.args.sides.now NodePrices) = cc in
-    let e = by_prices f.bytes.now f.parties f.layout c.args.sides.now same c.in-err-scan-2.field-0.0 quantities prices in
+    let quantities = c.in_ok-scan.ensures in
+    let found = c.in_err-scan-2.ensures in
+    let prices : Some c.in_err-scan-2.field-0.0 ≡ first (part_rows f.bytes.now f.layout c.args.sides.now NodePrices) = cc in
+    let e = by_prices f.bytes.now f.parties f.layout c.args.sides.now same c.in_err-scan-2.field-0.0 quantities prices in
     rw (p.1, p.2) (record { fault = e; exact = exact_check f.bytes.now f.parties f.layout c.args.sides.now e same; accepted = tt })
 
 pub returns : goal.returns
 returns c =
     let f = c.args.self.now in
     let same : f.parties ≡ length c.args.sides.now = omega arith in
-    let quantities = c.in-ok-scan.ensures in
-    let found = c.in-ok-scan-2.ensures in
+    let quantities = c.in_ok-scan.ensures in
+    let found = c.in_ok-scan-2.ensures in
     let prices : None ≡ first (part_rows f.bytes.now f.layout c.args.sides.now NodePrices) = cc in
     let e = by_contracts f.bytes.now f.parties f.layout c.args.sides.now same quantities prices c.scan-3.ensures in
     record {

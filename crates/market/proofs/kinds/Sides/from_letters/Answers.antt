@@ -8,17 +8,17 @@ use Rattle.market.proofs.kinds.Sides.from_letters.Goals as goal
 pub loop-index-init : goal.loop-index-init
 loop-index-init c = (below_none (letter_row c.args.letters.now), refl, refl)
 
-pub returns-in-err-slots : goal.returns-in-err-slots
-returns-in-err-slots c =
-    let p = err_from_is_err_and c.from-residual.result c.from-residual.ensures.1 in
-    let e = stopped c.args.letters.now c.loop-index.index c.from.result c.in-err-slots.field-0.0 c.from.ensures (omega arith) (omega arith) (omega arith)
-    c.loop-index.invariant.0 c.in-err-slots.ensures in
+pub returns-in_err-slots : goal.returns-in_err-slots
+returns-in_err-slots c =
+    let p = err_from_is_err_and c.from_residual.result c.from_residual.ensures.1 in
+    let e = stopped c.args.letters.now c.loop-index.index c.from.result c.in_err-slots.field-0.0 c.from.ensures (omega arith) (omega arith) (omega arith)
+    c.loop-index.invariant.0 c.in_err-slots.ensures in
     rw (p.1, p.2) (record { fault = e; exact = exact_letters c.args.letters.now e; sides = tt })
 
 pub loop-index-preserved : goal.loop-index-preserved
 loop-index-preserved c =
-    turn c.args.letters.now c.loop-index.slots c.loop-index.index c.from.result c.in-ok-slots.field-0 c.from.ensures (omega arith) (omega arith)
-    c.loop-index.invariant.0 c.loop-index.invariant.1 c.loop-index.invariant.2 c.in-ok-slots.ensures
+    turn c.args.letters.now c.loop-index.slots c.loop-index.index c.from.result c.in_ok-slots.field-0 c.from.ensures (omega arith) (omega arith)
+    c.loop-index.invariant.0 c.loop-index.invariant.1 c.loop-index.invariant.2 c.in_ok-slots.ensures
 
 pub returns : goal.returns
 returns c =
