@@ -17,8 +17,8 @@ returns-in_err-accept c =
     let p = err_from_is_err_and c.from_residual-in_err-accept.result c.from_residual-in_err-accept.ensures.1 in
     let letters = c.in_ok-sides.ensures in
     let file = c.in_err-accept.ensures in
-    let found : Some c.in_err-accept.field-0.0 ≡ first (file_rows c.args.file.now c.as-slice.result.now) = cc in
-    let e = by_file c.args.file.now c.args.letters.now c.as-slice.result.now (Some c.in_err-accept.field-0.0) (ap (map letter_of) c.as-slice.ensures ∙ letters.sides) letters.fault
+    let found : Some c.in_err-accept.field-0.0 ≡ first (file_rows c.args.file.now c.as_slice.result.now) = cc in
+    let e = by_file c.args.file.now c.args.letters.now c.as_slice.result.now (Some c.in_err-accept.field-0.0) (ap (map letter_of) c.as_slice.ensures ∙ letters.sides) letters.fault
     found file.exact in
     rw (p.1, p.2) (record { fault = e.0; exact = e.1 })
 
@@ -26,6 +26,6 @@ pub returns : goal.returns
 returns c =
     let letters = c.in_ok-sides.ensures in
     let file = c.in_ok-accept.ensures in
-    let e = by_file c.args.file.now c.args.letters.now c.as-slice.result.now None (ap (map letter_of) c.as-slice.ensures ∙ letters.sides) letters.fault
+    let e = by_file c.args.file.now c.args.letters.now c.as_slice.result.now None (ap (map letter_of) c.as_slice.ensures ∙ letters.sides) letters.fault
     file.fault file.exact in
     record { fault = e.0; exact = e.1 }

@@ -6,7 +6,7 @@ use Rattle.dayfile.proofs.contracts.contract_at.Goals as goal
 
 pub returns : goal.returns
 returns c =
-    let bytes = c.record-at-bytes.ensures in (
-      c.taken-apart.ensures.0 ∙ ap (λ xs. contract_in xs 0) bytes ∙ whole_record c.args.file.now c.args.at,
-      c.taken-apart.ensures.1 ∙ ap (λ xs. byte_at xs 3) bytes,
+    let bytes = c.record_at-bytes.ensures in (
+      c.taken_apart.ensures.0 ∙ ap (λ xs. contract_in xs 0) bytes ∙ whole_record c.args.file.now c.args.at,
+      c.taken_apart.ensures.1 ∙ ap (λ xs. byte_at xs 3) bytes,
     )

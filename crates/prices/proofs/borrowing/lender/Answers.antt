@@ -17,5 +17,5 @@ returns-in-Some c =
 pub returns-in-None : goal.returns-in-None
 returns-in-None c =
     let full : ℕ → Bool = sold c.args.market c.args.sides.now c.args.lines.now in
-    let e = c.last-before.ensures ∙ ap (λ o. option_or o (last_before full c.args.hour)) c.in-None.ensures in
-    record { value = e; borrows = stands full c.args.hour c.requires.hour c.last-before.result e }
+    let e = c.last_before.ensures ∙ ap (λ o. option_or o (last_before full c.args.hour)) c.in-None.ensures in
+    record { value = e; borrows = stands full c.args.hour c.requires.hour c.last_before.result e }

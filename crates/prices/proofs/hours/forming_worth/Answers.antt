@@ -3,14 +3,14 @@ use Rattle.money.proofs.Exact.{product, energy_size, price_size}
 use Rattle.prices.specs.Hours.{forming, energy_of, node_price_of}
 use Rattle.prices.proofs.hours.forming_worth.Goals as goal
 
-pub overflow-mul-result : goal.overflow-mul-result
-overflow-mul-result c =
-    (product c.energy-of.result c.node-price-of.result (omega (arith, energy_size c.energy-of.result c.energy-of.ensures.energy))
-    (omega (arith, price_size c.node-price-of.result c.node-price-of.ensures.price))).0
+pub overflow_mul-result : goal.overflow_mul-result
+overflow_mul-result c =
+    (product c.energy_of.result c.node_price_of.result (omega (arith, energy_size c.energy_of.result c.energy_of.ensures.energy))
+    (omega (arith, price_size c.node_price_of.result c.node_price_of.ensures.price))).0
 
 pub returns-in-Seller : goal.returns-in-Seller
 returns-in-Seller c =
-    let p = product c.energy-of.result c.node-price-of.result (omega (arith, energy_size c.energy-of.result c.energy-of.ensures.energy))
-    (omega (arith, price_size c.node-price-of.result c.node-price-of.ensures.price)) in
-    let worth = p.1 ∙ ap (λ z. z *ℤ c.node-price-of.result) c.energy-of.ensures.value ∙ ap (λ z. energy_of c.args.market c.args.line *ℤ z) c.node-price-of.ensures.value in
+    let p = product c.energy_of.result c.node_price_of.result (omega (arith, energy_size c.energy_of.result c.energy_of.ensures.energy))
+    (omega (arith, price_size c.node_price_of.result c.node_price_of.ensures.price)) in
+    let worth = p.1 ∙ ap (λ z. z *ℤ c.node_price_of.result) c.energy_of.ensures.value ∙ ap (λ z. energy_of c.args.market c.args.line *ℤ z) c.node_price_of.ensures.value in
     rw c.in-Seller.is (record { value = worth; modest = rw p.1 p.2 })

@@ -12,9 +12,9 @@ returns-in-Some c =
     let found = c.in-Some.ensures in
     let full = found.borrows.1 in
     let limits = price_within c.args.market c.args.sides.now c.args.lines.now c.requires.day lending found.borrows.0 full in
-    let lent : c.unwrap-or-mil.result ≡ prices lending = c.unwrap-or-mil.ensures
-    ∙ ap (λ o. unwrap_or o (kept c.args.reference)) (c.own-price.ensures ∙ own c.args.market c.args.sides.now c.args.lines.now lending full) in
-    let price : kept c.unwrap-or-mil.result ≡ prices lending = ap kept lent ∙ price_kept (prices lending) limits in
+    let lent : c.unwrap_or-mil.result ≡ prices lending = c.unwrap_or-mil.ensures
+    ∙ ap (λ o. unwrap_or o (kept c.args.reference)) (c.own_price.ensures ∙ own c.args.market c.args.sides.now c.args.lines.now lending full) in
+    let price : kept c.unwrap_or-mil.result ≡ prices lending = ap kept lent ∙ price_kept (prices lending) limits in
     record {
       value = price ∙ ap (price_or prices c.args.reference) found.value;
       limits = subst Price (sym price) limits;

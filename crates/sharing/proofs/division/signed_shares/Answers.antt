@@ -4,13 +4,13 @@ use Rattle.std.proofs.lemmas.List.Sums.{get_or-le-sum_by}
 use Rattle.sharing.proofs.Dividing.{sign_more, signed_all}
 use Rattle.sharing.proofs.division.signed_shares.Goals as goal
 
-pub signed-share-requires : goal.signed-share-requires
-signed-share-requires c = omega (arith, get_or-le-sum_by (λ (x : ℕ). x) c.args.sizes.now c.loop-party.party 0 (omega arith))
+pub signed_share-requires : goal.signed_share-requires
+signed_share-requires c = omega (arith, get_or-le-sum_by (λ (x : ℕ). x) c.args.sizes.now c.loop-party.party 0 (omega arith))
 
 pub loop-party-preserved : goal.loop-party-preserved
 loop-party-preserved c =
-    sign_more (to_z w64 (of_z w64 c.args.fund)) c.args.sizes.now c.loop-party.shares c.loop-party.party (to_z w64 (of_z w64 c.signed-share.result)) (omega arith) (omega arith)
-    c.loop-party.invariant (to_z-of_z w64 c.signed-share.result (record { sfits = c.signed-share.type-inv }) ∙ c.signed-share.ensures)
+    sign_more (to_z w64 (of_z w64 c.args.fund)) c.args.sizes.now c.loop-party.shares c.loop-party.party (to_z w64 (of_z w64 c.signed_share.result)) (omega arith) (omega arith)
+    c.loop-party.invariant (to_z-of_z w64 c.signed_share.result (record { sfits = c.signed_share.type_inv }) ∙ c.signed_share.ensures)
 
 pub returns : goal.returns
 returns c =

@@ -3,17 +3,17 @@ use Rattle.std.proofs.lemmas.List.Sums.{sum_by-set, get_or-le-sum_by}
 use Rattle.sharing.specs.Handing.{hand_out_none, hand_out_more}
 use Rattle.sharing.proofs.remainders.hand_out.Goals as goal
 
-pub overflow-add-out : goal.overflow-add-out
-overflow-add-out c =
-    let within : c.first-largest-party.result < length c.loop-served.out = omega arith in
-    omega (arith, get_or-le-sum_by (λ (x : ℕ). x) c.loop-served.out c.first-largest-party.result 0 within)
+pub overflow_add-out : goal.overflow_add-out
+overflow_add-out c =
+    let within : c.first_largest-party.result < length c.loop-served.out = omega arith in
+    omega (arith, get_or-le-sum_by (λ (x : ℕ). x) c.loop-served.out c.first_largest-party.result 0 within)
 
 pub loop-served-preserved : goal.loop-served-preserved
 loop-served-preserved c =
-    let b : ℕ = c.first-largest-party.result in
+    let b : ℕ = c.first_largest-party.result in
     let out : List ℕ = c.loop-served.out in
     let within : b < length out = omega arith in (
-      hand_out_more (c.args.left - c.loop-served.-served) (c.args.left - (c.loop-served.-served + 1)) c.loop-served.rest out b (omega arith) c.first-largest-party.ensures.value
+      hand_out_more (c.args.left - c.loop-served._served) (c.args.left - (c.loop-served._served + 1)) c.loop-served.rest out b (omega arith) c.first_largest-party.ensures.value
           ∙ c.loop-served.invariant.0,
       omega (arith, sum_by-set (λ (x : ℕ). x) out b (get_or out b 0 + 1) 0 within),
     )

@@ -13,12 +13,12 @@ party c = omega (arith, as_given_length c.args.given.now)
 counts : (c : goal.After-weight) → c.weight.result ≡ get_or (as_given c.args.given.now) c.loop-party.party 0
 counts c = c.weight.ensures ∙ counted_at c.of-counting.result c.args.given.now c.loop-party.party (omega arith) c.of-counting.ensures
 
-pub overflow-mul-part : goal.overflow-mul-part
-overflow-mul-part c =
+pub overflow_mul-part : goal.overflow_mul-part
+overflow_mul-part c =
     omega (arith, part_fits (as_given c.args.given.now) c.args.fund c.loop-party.party _ _ (party c) (counts c) c.total-total.ensures.value)
 
-pub overflow-sub-left : goal.overflow-sub-left
-overflow-sub-left c =
+pub overflow_sub-left : goal.overflow_sub-left
+overflow_sub-left c =
     omega (arith, floor_le (as_given c.args.given.now) c.args.fund c.loop-party.party _ _ (party c) (counts c) c.total-total.ensures.value c.total-total.ensures.some)
 
 pub loop-party-preserved : goal.loop-party-preserved

@@ -5,18 +5,18 @@ use Rattle.sharing.specs.Counting.{as_given_length, as_given_sum}
 use Rattle.sharing.specs.Handing.{floors_length, remainders_length, floors_le, served_first}
 use Rattle.sharing.proofs.remainders.write_shares.Goals as goal
 
-pub hand-out-requires : goal.hand-out-requires
-hand-out-requires c =
+pub hand_out-requires : goal.hand_out-requires
+hand_out-requires c =
     let ws : List ℕ = as_given c.args.given.now in
     let n = as_given_length c.args.given.now in
-    let nf = ap length c.round-down-left.ensures.floors ∙ floors_length ws c.args.fund in
-    let nr = ap length c.round-down-left.ensures.rest ∙ remainders_length ws c.args.fund in
-    let s = ap sum c.round-down-left.ensures.floors in
+    let nf = ap length c.round_down-left.ensures.floors ∙ floors_length ws c.args.fund in
+    let nr = ap length c.round_down-left.ensures.rest ∙ remainders_length ws c.args.fund in
+    let s = ap sum c.round_down-left.ensures.floors in
     let le = floors_le ws c.args.fund (as_given_sum c.args.given.now c.requires.weights.some) in
     record {
       some = omega (arith, nr, n, c.requires.weights.some);
       room = nf ∙ sym nr;
-      fits = omega (arith, s, le, c.round-down-left.ensures.left, c.ranges.fund.fits);
+      fits = omega (arith, s, le, c.round_down-left.ensures.left, c.ranges.fund.fits);
     }
 
 shared : (ws : List ℕ) (fund left : ℕ) (out rest : List ℕ) → left ≡ fund - sum (floors ws fund) → rest ≡ remainders ws fund → out ≡ floors ws fund
@@ -27,7 +27,7 @@ shared ws fund left out rest el er eo = rw (el, er, eo)
 pub returns : goal.returns
 returns c =
     let ws : List ℕ = as_given c.args.given.now in
-    let e = c.hand-out.ensures ∙ shared ws c.args.fund _ _ _ c.round-down-left.ensures.left c.round-down-left.ensures.rest c.round-down-left.ensures.floors in
+    let e = c.hand_out.ensures ∙ shared ws c.args.fund _ _ _ c.round_down-left.ensures.left c.round_down-left.ensures.rest c.round_down-left.ensures.floors in
     record {
       shares = e;
       served = subst (ServedFirst ws c.args.fund) (sym e) (served_first ws c.args.fund (as_given_sum c.args.given.now c.requires.weights.some));

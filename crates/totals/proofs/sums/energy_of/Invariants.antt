@@ -5,5 +5,5 @@ use Rattle.totals.proofs.sums.energy_of.Given as goal
 -- the sums over the hours so far
 abbrev pub invariant-loop-past : goal.invariant-loop-past
 invariant-loop-past l =
-    (l.day-ahead ≡ up_to (λ hour. (energy_in l.file.bytes.now l.file.parties l.file.layout l.party l.side hour).day_ahead) l.past)
+    (l.day_ahead ≡ up_to (λ hour. (energy_in l.file.bytes.now l.file.parties l.file.layout l.party l.side hour).day_ahead) l.past)
     × (l.metered ≡ up_to (λ hour. (energy_in l.file.bytes.now l.file.parties l.file.layout l.party l.side hour).metered) l.past)

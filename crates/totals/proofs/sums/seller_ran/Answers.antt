@@ -4,5 +4,5 @@ use Rattle.totals.proofs.sums.seller_ran.Goals as goal
 
 pub loop-party-preserved : goal.loop-party-preserved
 loop-party-preserved c =
-    let fits : SFits w64 c.sold-by.result = search rules in
-    below_more _ _ c.loop-party.invariant (sym c.sold-by.ensures ∙ zero_bits c.sold-by.result fits c.if-sold-by-ne0.false)
+    let fits : SFits w64 c.sold_by.result = search rules in
+    below_more _ _ c.loop-party.invariant (sym c.sold_by.ensures ∙ zero_bits c.sold_by.result fits c.if-sold_by-ne0.false)

@@ -6,17 +6,17 @@ use Rattle.dayfile.proofs.file.DayFile.line.Goals as goal
 
 pub returns : goal.returns
 returns c =
-    let a : SFits w64 c.i64-at.result = search rules in
+    let a : SFits w64 c.i64_at.result = search rules in
     let m : SFits w64 c.kept.result = search rules in
-    let d : SFits w64 c.i64-at-3.result = search rules in
-    let r : SFits w64 c.i64-at-4.result = search rules in
-    let i : SFits w64 c.i64-at-2.result = search rules in
+    let d : SFits w64 c.i64_at-3.result = search rules in
+    let r : SFits w64 c.i64_at-4.result = search rules in
+    let i : SFits w64 c.i64_at-2.result = search rules in
     let file = c.args.self.now.bytes.now in
     let layout = c.args.self.now.layout in
     let line = 24 * c.args.party + (c.args.hour - 1) in
-    let reading : c.i64-at-2.result ≡ signed_at file (c.item-at-quantities.result + 4) = cc in
+    let reading : c.i64_at-2.result ≡ signed_at file (c.item_at-quantities.result + 4) = cc in
     line_there file c.args.self.now.parties layout c.args.party c.args.side c.args.hour _ (omega arith) (omega arith) (omega arith)
     (simp to_z-of_z
-    (line_read file layout c.args.side line c.item-at-quantities.result c.item-at-prices.result c.i64-at.result c.i64-at-2.result c.kept.result
-    c.i64-at-3.result c.i64-at-4.result c.item-at-quantities.ensures.value c.item-at-prices.ensures.value c.i64-at.ensures reading
-    (simp to_z-of_z at c.kept.ensures) c.i64-at-3.ensures c.i64-at-4.ensures))
+    (line_read file layout c.args.side line c.item_at-quantities.result c.item_at-prices.result c.i64_at.result c.i64_at-2.result c.kept.result
+    c.i64_at-3.result c.i64_at-4.result c.item_at-quantities.ensures.value c.item_at-prices.ensures.value c.i64_at.ensures reading
+    (simp to_z-of_z at c.kept.ensures) c.i64_at-3.ensures c.i64_at-4.ensures))

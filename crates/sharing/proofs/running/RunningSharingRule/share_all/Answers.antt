@@ -18,15 +18,15 @@ more c =
     let w = c.weight-running.ensures ∙ counted_at c.of-counting.result c.args.given.now c.loop-party.party (omega arith) c.of-counting.ensures in
     omega (arith, w, c.loop-party.invariant.0, sum_by_more (λ (x : ℕ). x) (as_given c.args.given.now) c.loop-party.party 0 (party c))
 
-pub overflow-add-running : goal.overflow-add-running
-overflow-add-running c =
-    omega (arith, more c, sum_by-take-le (λ (x : ℕ). x) (as_given c.args.given.now) (c.loop-party.party + 1), c.total-total.ensures.value, c.total-total.type-inv)
+pub overflow_add-running : goal.overflow_add-running
+overflow_add-running c =
+    omega (arith, more c, sum_by-take-le (λ (x : ℕ). x) (as_given c.args.given.now) (c.loop-party.party + 1), c.total-total.ensures.value, c.total-total.type_inv)
 
-pub overflow-mul-up-to : goal.overflow-mul-up-to
-overflow-mul-up-to c = omega (arith, front_product (as_given c.args.given.now) c.args.fund (c.loop-party.party + 1) _ (more c) c.requires.fund)
+pub overflow_mul-up_to : goal.overflow_mul-up_to
+overflow_mul-up_to c = omega (arith, front_product (as_given c.args.given.now) c.args.fund (c.loop-party.party + 1) _ (more c) c.requires.fund)
 
-pub overflow-sub-out : goal.overflow-sub-out
-overflow-sub-out c =
+pub overflow_sub-out : goal.overflow_sub-out
+overflow_sub-out c =
     let rises = running_ordered (as_given c.args.given.now) c.args.fund c.loop-party.party _ _ _ (party c) c.loop-party.invariant.0 (more c)
     c.total-total.ensures.value c.total-total.ensures.some in
     omega (arith, c.loop-party.invariant.1, rises)

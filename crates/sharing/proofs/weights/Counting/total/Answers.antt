@@ -7,6 +7,6 @@ use Rattle.sharing.proofs.weights.Counting.total.Goals as goal
 pub returns : goal.returns
 returns c =
     let given = c.args.given.now in
-    let e = c.up-to.ensures ∙ ap (λ (ws : List ℕ). sum (take (length given) ws)) c.requires.counting
+    let e = c.up_to.ensures ∙ ap (λ (ws : List ℕ). sum (take (length given) ws)) c.requires.counting
     ∙ ap sum (take_all (length given) (as_given given) (omega (arith, as_given_length given))) in
     record { value = e; some = omega (arith, as_given_sum given c.requires.weights.some) }

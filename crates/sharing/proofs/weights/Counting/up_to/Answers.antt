@@ -10,8 +10,8 @@ more c =
     count_front c.args.self c.args.given.now c.args.n c.loop-weight.weight-index _ _ c.requires.weights c.requires.within c.loop-weight-test.true
     c.loop-weight.invariant.0 c.loop-weight.invariant.1 c.weight-total.ensures
 
-pub overflow-add-total : goal.overflow-add-total
-overflow-add-total c = omega (arith, (more c).1, (more c).2, c.requires.within, c.requires.weights.few)
+pub overflow_add-total : goal.overflow_add-total
+overflow_add-total c = omega (arith, (more c).1, (more c).2, c.requires.within, c.requires.weights.few)
 
 pub loop-weight-preserved : goal.loop-weight-preserved
 loop-weight-preserved c = ((more c).0, (more c).1)
