@@ -1,5 +1,5 @@
 -- Where no row of the records holds, every number lies within its limits and every contract is right.
-use Rattle.std.proofs.Common.{◌≡◌, ℕ, ◌+◌, ◌-◌, ◌*◌, ◌/◌, ◌<◌, ◌≤◌, Bool, true, false, not, ◌&&◌, ◌||◌, eqb, ltb, List, [], ◌∷◌, ◌++◌, length, get_or, ℤ, pos, neg_ℤ, IfOk, None, Ok, Err, Result, sym, refl, ap, ◌∙◌, subst, arith}
+use Rattle.std.proofs.Common.{◌≡◌, ℕ, ◌+◌, ◌-◌, ◌*◌, ◌/◌, ◌<◌, ◌≤◌, true, false, not, ◌&&◌, ◌||◌, eqb, ltb, List, [], ◌∷◌, ◌++◌, length, get_or, ℤ, pos, neg_ℤ, IfOk, None, Ok, Err, Result, refl, ap, subst, arith}
 use Rattle.std.proofs.lemmas.Int.{ints}
 use Rattle.std.proofs.lemmas.Bool.{or_parts, and_parts, not-false, ltb-true, ltb-false}
 use Rattle.std.specs.Result.{result_err}
@@ -10,12 +10,12 @@ use Rattle.faults.specs.declared.causes.RecordFault.TheVariants.{PartyCount}
 use Rattle.faults.proofs.Firsts.{all_clear, below_clear, first_parts}
 use Rattle.market.specs.declared.kinds.Side.{Side}
 use Rattle.market.specs.declared.kinds.Side.TheVariants.{Seller, Buyer}
-use Rattle.market.specs.Limits.{Between, outside, most_kwh, most_price, beyond_day_ahead, beyond_metered, beyond_price, kept_of, least_metered}
+use Rattle.market.specs.Limits.{Between, outside, most_kwh, most_price, beyond_metered, beyond_price, kept_of}
 use Rattle.market.specs.declared.records.Contract.{Contract}
 use Rattle.market.proofs.Limited.{inside}
 use Rattle.dayfile.specs.declared.parts.Layout.{Layout}
 use Rattle.dayfile.specs.Bytes.{byte_at, signed_at}
-use Rattle.dayfile.specs.Records.{item_at, item_count, item_rows, part_rows, record_rows, check_rows, quantity_rows, price_rows, contract_row, contract_in, line_in, side_at, is_seller, wrong_parties, wrong_terms}
+use Rattle.dayfile.specs.Records.{item_at, item_rows, part_rows, record_rows, check_rows, quantity_rows, price_rows, contract_row, contract_in, line_in, side_at, is_seller, wrong_parties, wrong_terms}
 use Rattle.dayfile.specs.Accepted.{RightPrice, RightLine, RightContract, Accepted}
 
 kept_inside : (side : Side) (z : ℤ) → beyond_metered side z ≡ false → Between (pos 0) (pos most_kwh) (kept_of side z)

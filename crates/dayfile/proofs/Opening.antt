@@ -1,10 +1,9 @@
 -- Lemmas on the structural check: which of its parts answers.
-use Rattle.std.proofs.Common.{◌≡◌, ℕ, ◌+◌, ◌*◌, ◌/◌, ◌≤◌, Bool, cond, not, eqb, List, [], ◌∷◌, ◌++◌, map, length, get_or, Some, None, Option, sym, refl, ap, ◌∙◌, arith}
+use Rattle.std.proofs.Common.{◌≡◌, ℕ, ◌+◌, ◌*◌, ◌/◌, ◌≤◌, cond, not, List, ◌++◌, length, Some, None, sym, ap, ◌∙◌, arith}
 use Rattle.std.proofs.lemmas.Bool.{ltb-false, or_parts, eqb-true, not-false, eq-eqb, ne_eqb}
 use Rattle.std.specs.Option.{option_or, option_map}
 use Rattle.faults.specs.Rows.{first, renamed}
 use Rattle.faults.specs.declared.causes.FileFault.{FileFault}
-use Rattle.faults.specs.declared.causes.RecordFault.{RecordFault}
 use Rattle.faults.specs.declared.causes.RecordFault.TheVariants.{File, PartyCount}
 use Rattle.faults.proofs.Firsts.{first-++, first_map, all_clear}
 use Rattle.faults.specs.declared.causes.Section.TheVariants.{Quantities, NodePrices, Contracts}

@@ -1,9 +1,8 @@
 -- The rows of a file's check stand in the order of their refusals.
-use Rattle.std.proofs.Common.{◌≡◌, ℕ, ◌+◌, ◌*◌, ◌<◌, ◌≤◌, Bool, true, cond, not, eqb, ◌⊎◌, List, [], ◌∷◌, ◌++◌, length, drop, Some, None, Option, sym, refl, ap, ◌∙◌, subst, inl, inr, arith, lit<}
+use Rattle.std.proofs.Common.{◌≡◌, ℕ, ◌+◌, ◌*◌, ◌<◌, ◌≤◌, Bool, true, cond, not, eqb, List, [], ◌∷◌, ◌++◌, length, drop, Some, None, Option, sym, refl, ap, ◌∙◌, subst, inl, inr, arith, lit<}
 use Rattle.faults.specs.Orders.{rank, RecordEarlier}
 use Rattle.faults.specs.Refusals.{record_refusal}
 use Rattle.faults.specs.Rows.{first, Exact}
-use Rattle.faults.specs.declared.causes.Section.{Section}
 use Rattle.faults.specs.declared.causes.Section.TheVariants.{Quantities, NodePrices, Contracts}
 use Rattle.faults.specs.declared.causes.FileFault.TheVariants.{TooShort}
 use Rattle.faults.specs.declared.causes.RecordFault.{RecordFault}
@@ -17,7 +16,7 @@ use Rattle.market.specs.Limits.{beyond_day_ahead, beyond_metered}
 use Rattle.dayfile.specs.Bytes.{signed_at}
 use Rattle.dayfile.specs.Layouts.{layout_in}
 use Rattle.dayfile.specs.Structure.{structure_rows}
-use Rattle.dayfile.specs.Records.{item_at, item_count, item_rows, part_rows, record_rows, check_rows, file_rows, quantity_rows, price_row, price_rows, side_at, InOrder}
+use Rattle.dayfile.specs.Records.{item_at, item_rows, part_rows, record_rows, check_rows, file_rows, quantity_rows, price_row, price_rows, side_at, InOrder}
 
 -- each row of the structural check has a rank below that of the records
 structure_ranks : (file : List ℕ) (n : ℕ) → Each (λ f. rank (record_refusal f) < 16) (structure_rows file n)

@@ -1,5 +1,5 @@
 -- Lemmas on the scan of a file's records.
-use Rattle.std.proofs.Common.{◌≡◌, ℕ, ◌+◌, List, sym, refl, ap, ◌∙◌, add_assoc}
+use Rattle.std.proofs.Common.{◌≡◌, ℕ, List, add_assoc}
 use Rattle.dayfile.specs.Records.{contract_in, record_in}
 
 -- the twelve bytes at an offset hold the contract that stands there

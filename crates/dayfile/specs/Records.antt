@@ -1,6 +1,6 @@
 -- The records of a day's file and their check: the numbers of a line, a contract, and the rows of refusals 16 to 18 in the order of their offsets.
 -- A line is one party's hour. Lines are counted from 0, party by party and hour by hour, 24 to a party.
-use Rattle.std.specs.Prelude.{ℕ, ◌+◌, ◌-◌, ◌*◌, ◌/◌, ◌≤◌, Bool, true, false, not, ◌&&◌, ◌||◌, List, [], ◌∷◌, ◌++◌, length, ℤ, pos, Option, ◌==◌, nat_lt, slice_index_or}
+use Rattle.std.specs.Prelude.{ℕ, ◌+◌, ◌-◌, ◌*◌, ◌/◌, ◌≤◌, Bool, true, false, not, ◌&&◌, ◌||◌, List, [], ◌∷◌, ◌++◌, length, pos, Option, ◌==◌, nat_lt, slice_index_or}
 use Rattle.std.specs.Bool.{then_some}
 use Rattle.faults.specs.declared.causes.Section.{Section}
 use Rattle.faults.specs.declared.causes.Section.TheVariants.{Quantities, NodePrices, Contracts}

@@ -1,5 +1,5 @@
 -- The structural check of a day's file: the rows of refusals 11 to 15, in the order in which they count.
-use Rattle.std.specs.Prelude.{ℕ, ◌+◌, ◌*◌, ◌%◌, Bool, not, ◌||◌, List, [], ◌∷◌, ◌++◌, length, ◌==◌, nat_lt}
+use Rattle.std.specs.Prelude.{ℕ, ◌*◌, ◌%◌, Bool, not, ◌||◌, List, [], ◌∷◌, ◌++◌, length, ◌==◌, nat_lt}
 use Rattle.faults.specs.declared.causes.Section.{Section}
 use Rattle.faults.specs.declared.causes.Section.TheVariants.{Quantities, NodePrices, Contracts}
 use Rattle.faults.specs.declared.causes.FileFault.{FileFault}

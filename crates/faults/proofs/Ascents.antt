@@ -1,5 +1,5 @@
 -- Tables whose rows stand in the order of their refusals, so that the first row that holds is exactly the earliest.
-use Rattle.std.proofs.Common.{◌≡◌, ℕ, zero, suc, ◌+◌, ◌*◌, ◌<◌, ◌≤◌, Bool, ◌⊎◌, List, [], ◌∷◌, ◌++◌, Some, None, Option, sym, refl, ap, ◌∙◌, subst, inl, inr, mul-zero, mul-suc, arith}
+use Rattle.std.proofs.Common.{◌≡◌, ℕ, zero, suc, ◌+◌, ◌*◌, ◌<◌, ◌≤◌, Bool, ◌⊎◌, List, [], ◌∷◌, ◌++◌, Some, None, Option, sym, refl, ap, ◌∙◌, subst, inl, inr, mul-suc, arith}
 use Rattle.std.specs.Option.{option_map}
 use Rattle.faults.specs.declared.answer.Refusal.{Refusal}
 use Rattle.faults.specs.Orders.{rank, Earlier}

@@ -1,5 +1,5 @@
 -- A check as a table of rows. A row is a fault and whether the fault is there; the rows stand in the order in which they count.
-use Rattle.std.specs.Prelude.{◌≡◌, ℕ, zero, suc, Bool, true, false, cond, ◌⊎◌, List, [], ◌∷◌, ◌++◌, map, Some, None, Option}
+use Rattle.std.specs.Prelude.{◌≡◌, ℕ, zero, suc, Bool, true, cond, ◌⊎◌, List, [], ◌∷◌, ◌++◌, map, Some, None, Option}
 
 -- the fault of the first row that holds
 abbrev pub first : {X : Type 0} → List (X × Bool) → Option X

@@ -1,5 +1,5 @@
 -- A number that is not outside its limits lies between them.
-use Rattle.std.proofs.Common.{◌≡◌, false, ◌||◌, ℤ, ◌≤ℤ◌, arith}
+use Rattle.std.proofs.Common.{◌≡◌, false, ℤ, arith}
 use lib.Signed.{lt_z}
 use Rattle.std.proofs.lemmas.Int.{ints}
 use Rattle.std.proofs.lemmas.Bool.{or_parts}

@@ -1,5 +1,5 @@
 -- Kind letters: S (code 83) names a seller, B (code 66) a buyer.
-use Rattle.std.specs.Prelude.{◌≡◌, ℕ, Bool, cond, not, ◌&&◌, ◌||◌, List, [], ◌∷◌, length, Ok, Err, Result, ◌==◌, nat_lt, slice_index}
+use Rattle.std.specs.Prelude.{ℕ, Bool, cond, not, ◌||◌, List, [], ◌∷◌, length, Ok, Err, Result, ◌==◌, nat_lt, slice_index}
 use Rattle.faults.specs.declared.causes.MonthFault.{MonthFault}
 use Rattle.faults.specs.declared.causes.MonthFault.TheVariants.{PartyCount, Letter}
 use Rattle.faults.specs.Rows.{rows_below}

@@ -1,9 +1,9 @@
 -- Whose price an hour takes: the hour that lends is not empty, and no hour between is.
-use Rattle.std.proofs.Common.{◌≡◌, ℕ, zero, suc, ◌+◌, ◌-◌, ◌<◌, ◌≤◌, Bool, true, false, ◌≢◌, ◌⊎◌, List, length, get_or, set, Some, None, Option, sym, refl, ap, ◌∙◌, subst, inl, inr, ⊎_elim, arith}
+use Rattle.std.proofs.Common.{◌≡◌, ℕ, zero, suc, ◌+◌, ◌-◌, ◌<◌, ◌≤◌, Bool, true, false, ◌≢◌, List, length, get_or, set, Some, None, Option, sym, refl, ap, ◌∙◌, subst, inl, inr, ⊎_elim, arith}
 use Rattle.std.proofs.lemmas.List.{get_or-set_same, get_or-set_other}
 use Rattle.std.proofs.lemmas.Bool.{cases_Bool, cases_eq, cases_lt, cond-true, cond-false}
 use Rattle.std.specs.Option.{option_or}
-use Rattle.prices.specs.Borrowing.{Empty, Lends, Borrows}
+use Rattle.prices.specs.Borrowing.{Empty, Borrows}
 use Rattle.prices.specs.Hours.{first_from, last_before, lender}
 use Rattle.prices.proofs.Searching.{first_found, last_found}
 

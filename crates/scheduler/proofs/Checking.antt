@@ -1,5 +1,5 @@
 -- Lemmas on the scheduler's check: the letters answer first, then the file.
-use Rattle.std.proofs.Common.{◌≡◌, ℕ, ◌<◌, ◌≤◌, Bool, ◌⊎◌, List, ◌++◌, map, Some, None, Option, sym, refl, ap, ◌∙◌, subst, inl, inr, arith, lit≤}
+use Rattle.std.proofs.Common.{◌≡◌, ℕ, ◌<◌, ◌≤◌, List, map, Some, None, Option, sym, ap, ◌∙◌, subst, inl, arith, lit≤}
 use Rattle.std.specs.Option.{option_or, option_map}
 use Rattle.faults.specs.Orders.{rank, RecordEarlier, MonthEarlier}
 use Rattle.faults.specs.Refusals.{record_refusal, month_refusal}

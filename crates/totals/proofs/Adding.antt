@@ -1,5 +1,5 @@
 -- Lemmas on sums over the hours.
-use Rattle.std.proofs.Common.{◌≡◌, ℕ, zero, suc, ◌+◌, ℤ, pos, ◌+ℤ◌, sym, refl, ap, ◌∙◌, add-one, w64, SFits, to_z, of_z}
+use Rattle.std.proofs.Common.{◌≡◌, ℕ, ◌+◌, ℤ, pos, ◌+ℤ◌, sym, refl, ap, ◌∙◌, add-one, w64, SFits, to_z, of_z}
 use Rattle.std.proofs.lemmas.Int.{to_z-of_z}
 use Rattle.std.specs.Int.{int_wrap}
 use Rattle.totals.specs.declared.energy.Energy.{Energy}

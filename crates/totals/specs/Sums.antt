@@ -1,5 +1,5 @@
 -- Sums over the lines of a day's file. They wrap at 64 bits.
-use Rattle.std.specs.Prelude.{◌≡◌, ℕ, zero, suc, ◌<◌, List, length, ℤ, pos, ◌+ℤ◌, Some, None, Option, ◌≢◌, slice_index_or}
+use Rattle.std.specs.Prelude.{ℕ, zero, suc, ◌<◌, List, length, ℤ, pos, ◌+ℤ◌, Some, None, Option, ◌≢◌, slice_index_or}
 use Rattle.std.specs.Int.{int_wrap, w64}
 use Rattle.market.specs.declared.kinds.Side.{Side}
 use Rattle.market.specs.declared.kinds.Side.TheVariants.{Seller, Buyer}

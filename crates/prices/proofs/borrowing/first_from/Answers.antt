@@ -1,4 +1,4 @@
-use Rattle.std.proofs.Common.{◌≡◌, ℕ, ◌-◌, ◌<◌, Bool, true, sym, ap, ◌∙◌, arith, rules}
+use Rattle.std.proofs.Common.{◌≡◌, ℕ, ◌-◌, Bool, true, sym, ◌∙◌, arith}
 use Rattle.prices.specs.Hours.{sold}
 use Rattle.prices.proofs.Pricing.{empty_hour, sold_since}
 use Rattle.prices.proofs.Searching.{first_none, first_here, first_on}

@@ -1,4 +1,4 @@
-use Rattle.std.proofs.Common.{◌≡◌, ℕ, ◌-◌, ◌<◌, ◌≤◌, pos}
+use Rattle.std.proofs.Common.{◌≡◌, ℕ, ◌<◌, ◌≤◌, pos}
 use Rattle.prices.specs.Hours.{forming, side_at, energy_of, line_at, sold, last_before}
 use Rattle.prices.proofs.borrowing.last_before.Given as goal
 

@@ -1,6 +1,6 @@
-use Rattle.std.proofs.Common.{◌≡◌, ℤ, ◌*ℤ◌, ap, ◌∙◌, arith}
+use Rattle.std.proofs.Common.{◌*ℤ◌, ap, ◌∙◌, arith}
 use Rattle.money.proofs.Exact.{product, energy_size, price_size}
-use Rattle.prices.specs.Hours.{forming, energy_of, node_price_of}
+use Rattle.prices.specs.Hours.{energy_of}
 use Rattle.prices.proofs.hours.forming_worth.Goals as goal
 
 pub overflow_mul-result : goal.overflow_mul-result

@@ -1,4 +1,4 @@
-use Rattle.std.proofs.Common.{◌≡◌, ℕ, ◌*◌, ◌^◌, ◌<◌, ◌≤◌, sym, arith, rules}
+use Rattle.std.proofs.Common.{◌*◌, sym, arith}
 use Rattle.market.specs.Limits.{most_kwh}
 use Rattle.money.proofs.Exact.{energy_size}
 use Rattle.money.proofs.Summing.{summed_none, turn}

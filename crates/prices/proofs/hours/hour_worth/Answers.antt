@@ -1,4 +1,4 @@
-use Rattle.std.proofs.Common.{◌≡◌, ℕ, ◌*◌, ◌^◌, ◌<◌, ◌≤◌, sym, arith, rules}
+use Rattle.std.proofs.Common.{◌*◌, sym, arith}
 use Rattle.money.proofs.Summing.{summed_none, turn}
 use Rattle.prices.proofs.hours.hour_worth.Goals as goal
 

@@ -1,4 +1,4 @@
-use Rattle.std.proofs.Common.{◌≡◌, pos, ◌∙◌, arith, length-set}
+use Rattle.std.proofs.Common.{pos, arith, length-set}
 use Rattle.prices.specs.Borrowing.{PairedBy}
 use Rattle.prices.proofs.Lending.{filled}
 use Rattle.prices.proofs.table.price_table.Goals as goal

@@ -1,4 +1,4 @@
-use Rattle.std.proofs.Common.{◌≡◌, ℕ, ◌<◌, List, length, nat_abs, sym, ap, ◌∙◌, arith, w64}
+use Rattle.std.proofs.Common.{ℕ, ◌<◌, List, length, nat_abs, ap, ◌∙◌, arith, w64}
 use Rattle.std.proofs.lemmas.Int.{to_z-of_z}
 use Rattle.sharing.specs.Divisions.{unshareable}
 use Rattle.sharing.proofs.Dividing.{part_within, part_there}

@@ -1,6 +1,5 @@
-use Rattle.std.proofs.Common.{◌≡◌, ◌^◌, ◌<◌, sym, refl, ap, ◌∙◌, arith, w64, Fits, SFits, rules}
+use Rattle.std.proofs.Common.{◌≡◌, ap, arith, w64, SFits, rules}
 use Rattle.std.proofs.lemmas.Int.{wrapping_add_onto}
-use Rattle.totals.specs.Sums.{energy_in, up_to}
 use Rattle.totals.proofs.Adding.{up_none, up_more, both_sums}
 use Rattle.totals.proofs.sums.energy_of.Goals as goal
 
