@@ -1,4 +1,4 @@
-/* The scheduler's check of a day's file. Link libscheduler.a and the kit's C code (examples/Makefile has the line). */
+/* The scheduler's check of a day's file. Link libscheduler.a (examples/Makefile builds it and has the line). */
 #ifndef PIGEONCOUCH_H
 #define PIGEONCOUCH_H
 

@@ -3,7 +3,8 @@ use Rattle.std.specs.Prelude.{◌≡◌, ℕ, ◌+◌, ◌-◌, ◌*◌, ◌<◌
 use Rattle.faults.specs.declared.causes.Section.TheVariants.{Contracts}
 use Rattle.market.specs.declared.kinds.Side.{Side}
 use Rattle.market.specs.declared.kinds.Side.TheVariants.{Seller, Buyer}
-use Rattle.market.specs.Limits.{most_kwh, most_price, Between}
+use Rattle.market.specs.Limits.{most_kwh, most_price}
+pub use Rattle.market.specs.Limits.{Between}
 use Rattle.dayfile.specs.declared.parts.Layout.{Layout}
 use Rattle.market.specs.declared.records.Line.{Line}
 use Rattle.market.specs.declared.records.Contract.{Contract}

@@ -15,3 +15,4 @@ mod structure;
 mod view;
 
 pub use file::DayFile;
+pub use market::{Contract, Line};

@@ -22,9 +22,8 @@ pub fn check_day(file: &[u8], letters: &[u8]) -> Result<(), MonthFault>
     Ok(())
 }
 
-/// The same for a C program: 0, or the number of the refusal alone.
-#[unsafe(no_mangle)]
-pub extern "C" fn pigeoncouch_check_day(file: &[u8], letters: &[u8]) -> u32
+/// The same as one number: 0, or the number of the refusal alone. The crate `scheduler_c` exports it for C programs.
+pub fn pigeoncouch_check_day(file: &[u8], letters: &[u8]) -> u32
     ensures { result ≡ number_of (first (day_rows file.now letters.now)) }
 {
     match check_day(file, letters) {
