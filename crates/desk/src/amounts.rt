@@ -1,5 +1,5 @@
-use crate::money::{print_fen, print_micro};
 use crate::numbers::{WordFault, next_number, next_word, print_word_fault};
+use crate::yuan::{print_fen, print_micro};
 use bills::{Beyond, HourAmounts, hour_amounts, three_part_bill, two_part_bill};
 use books::{ThreePart, TwoPart};
 use market::{Contract, Either, Line, Side, UnifiedPrices};

@@ -1,5 +1,5 @@
-use crate::money::print_fen;
 use crate::numbers::{WordFault, next_number, next_word, print_word_fault};
+use crate::yuan::print_fen;
 use market::Either;
 use sharing::{ExactPart, LargestRemainder, Running, Unshareable, divide, exact_part};
 use std::io;

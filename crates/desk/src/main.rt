@@ -7,10 +7,10 @@ mod amounts;
 mod command;
 mod divide;
 mod lines;
-mod money;
 mod numbers;
 mod reason;
 mod sheet;
+mod yuan;
 
 use lines::run_line;
 use std::{env, fs, io};

@@ -1,4 +1,4 @@
-use crate::money::print_mil;
+use crate::yuan::print_mil;
 use dayfile::DayFile;
 use market::{Contract, Side};
 use std::io;
