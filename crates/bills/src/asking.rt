@@ -7,7 +7,7 @@ use market::{Contract, Line, UnifiedPrices, beyond_day_ahead, beyond_price};
 
 /// What a rule book cannot be asked about: too many contracts, or the number that is beyond its limits. A contract is told
 /// by its index.
-#[derive(Clone, Copy)]
+#[derive(Clone, Copy, Debug, PartialEq, Eq)]
 pub enum Beyond {
     ContractCount,
     DayAheadEnergy,

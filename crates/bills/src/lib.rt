@@ -5,6 +5,7 @@
 mod asking;
 mod hours;
 mod provinces;
+mod words;
 
 pub use asking::Beyond;
 pub use hours::{HourAmounts, hour_amounts};

@@ -1,5 +1,5 @@
 /// What a refused caller is told: the layer (1 file, 2 record, 3 month), the number of the refusal and the place.
-#[derive(Clone, Copy)]
+#[derive(Clone, Copy, Debug, PartialEq, Eq)]
 pub struct Refusal {
     pub layer: u8,
     pub number: u8,

@@ -3,7 +3,7 @@ ghost use Rattle.faults.specs.declared.causes.RecordFault.TheVariants.{File};
 ghost use Rattle.faults.specs.declared.causes.MonthFault.TheVariants.{Record};
 
 /// A section of a day's file, in the order of the header's three pairs.
-#[derive(Clone, Copy)]
+#[derive(Clone, Copy, Debug, PartialEq, Eq)]
 pub enum Section {
     Quantities,
     NodePrices,
@@ -11,7 +11,7 @@ pub enum Section {
 }
 
 /// What is wrong with a file before a record of it is read.
-#[derive(Clone, Copy)]
+#[derive(Clone, Copy, Debug, PartialEq, Eq)]
 pub enum FileFault {
     /// fewer than 32 bytes; how many there are
     TooShort(usize),
@@ -24,7 +24,7 @@ pub enum FileFault {
 }
 
 /// What is wrong with a file as a set of records for given parties.
-#[derive(Clone, Copy)]
+#[derive(Clone, Copy, Debug, PartialEq, Eq)]
 pub enum RecordFault {
     /// the file itself is at fault
     File(FileFault),
@@ -39,7 +39,7 @@ pub enum RecordFault {
 }
 
 /// Why a call of a month is refused.
-#[derive(Clone, Copy)]
+#[derive(Clone, Copy, Debug, PartialEq, Eq)]
 pub enum MonthFault {
     /// a month has 28 to 31 days
     DayCount,

@@ -5,6 +5,7 @@
 mod answer;
 mod causes;
 mod refusal;
+mod words;
 
 pub use answer::Refusal;
 pub use causes::{FileFault, MonthFault, RecordFault, Section};

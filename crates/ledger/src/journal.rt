@@ -1,7 +1,7 @@
 use money::Amount;
 
 /// Why a journal line was posted: a day was cleared, a reading corrected, a fund shared out.
-#[derive(Clone, Copy)]
+#[derive(Clone, Copy, Debug, PartialEq, Eq)]
 pub enum Cause {
     Day,
     Correction,
@@ -10,7 +10,7 @@ pub enum Cause {
 
 /// A journal line: the number of the call that posted it, the day (0 for a share), the account, the cause and the fen. On a
 /// party's account positive fen are owed by the party.
-#[derive(Clone, Copy)]
+#[derive(Clone, Copy, Debug, PartialEq, Eq)]
 pub struct Entry {
     pub call: u64,
     pub day: u8,

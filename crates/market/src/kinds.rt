@@ -1,7 +1,9 @@
 ghost use Rattle.std.specs.Prelude.{◌≤◌};
 
+use crate::limits::MAX_PARTIES;
+
 /// A party sells (a plant) or buys (a wholesale user or a retailer).
-#[derive(Clone, Copy)]
+#[derive(Clone, Copy, Debug, PartialEq, Eq)]
 pub enum Side {
     Seller,
     Buyer,
@@ -11,7 +13,7 @@ pub enum Side {
 #[derive(Clone, Copy)]
 pub struct Sides {
     pub(crate) count: usize,
-    pub(crate) slots: [Side; 64],
+    pub(crate) slots: [Side; MAX_PARTIES],
     ghost some: { 1 ≤ count },
     ghost few: { count ≤ 64 },
 }

@@ -6,6 +6,7 @@ ghost use Rattle.market.specs.Letters.{side_of, letter_of, letter_rows};
 ghost use Rattle.market.specs.Parties.{sides_in};
 
 use crate::kinds::{Side, Sides};
+use crate::limits::MAX_PARTIES;
 use faults::MonthFault;
 
 /// The side that a letter names; `index` is where it stands among the letters.
@@ -27,10 +28,10 @@ impl Sides {
         ensures sides { IfOk result (λ s. map letter_of (sides_in s) ≡ letters.now) }
     {
         let count = letters.len();
-        if count < 1 || count > 64 {
+        if count < 1 || count > MAX_PARTIES {
             return Err(MonthFault::PartyCount);
         }
-        let mut slots = [Side::Seller; 64];
+        let mut slots = [Side::Seller; MAX_PARTIES];
         for (index, letter) in letters.iter().enumerate() {
             slots[index] = side_of(char::from(*letter), index)?;
         }

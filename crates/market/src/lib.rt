@@ -10,5 +10,7 @@ mod records;
 
 pub use either::Either;
 pub use kinds::{Side, Sides};
-pub use limits::{MAX_KWH, beyond_day_ahead, beyond_metered, beyond_price, kept};
+pub use limits::{
+    MAX_CONTRACTS, MAX_KWH, MAX_PARTIES, beyond_day_ahead, beyond_metered, beyond_price, kept,
+};
 pub use records::{Contract, Line, UnifiedPrices};

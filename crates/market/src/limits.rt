@@ -3,6 +3,12 @@ ghost use Rattle.market.specs.Limits.{beyond_day_ahead, beyond_metered, beyond_p
 
 use crate::kinds::Side;
 
+/// The most parties of a month.
+pub const MAX_PARTIES: usize = 64;
+
+/// The most contracts of a day.
+pub const MAX_CONTRACTS: usize = 256;
+
 /// The most energy of a party in an hour, and of a contract.
 pub const MAX_KWH: i64 = 4_000_000;
 

@@ -6,5 +6,5 @@ mod amounts;
 mod rounding;
 mod tallies;
 
-pub use rounding::{rounded_quotient, to_fen};
+pub use rounding::{MICRO_PER_FEN, rounded_quotient, to_fen};
 pub use tallies::{Amount, tally};

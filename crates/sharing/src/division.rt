@@ -7,7 +7,7 @@ use crate::limits::{MOST_PARTIES, MOST_PRODUCT, MOST_WEIGHT};
 use crate::rule::SharingRule;
 
 /// Why a fund is not shared.
-#[derive(Clone, Copy)]
+#[derive(Clone, Copy, Debug, PartialEq, Eq)]
 pub enum Unshareable {
     /// The parties are not 1 to 64.
     PartyCount,
@@ -19,7 +19,7 @@ pub enum Unshareable {
 
 /// A party's exact part of a fund's size: its counted weight, the total of all of them, and the size times the weight divided by
 /// the total, as a whole number and what is left.
-#[derive(Clone, Copy)]
+#[derive(Clone, Copy, Debug, PartialEq, Eq)]
 pub struct ExactPart {
     pub weight: u64,
     pub total: u64,

@@ -9,6 +9,7 @@ mod remainders;
 mod rule;
 mod running;
 mod weights;
+mod words;
 
 pub use division::{ExactPart, Unshareable, divide, exact_part};
 pub use remainders::LargestRemainder;
