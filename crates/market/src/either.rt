@@ -1,5 +1,5 @@
-// No type of the kit's crate `either`, since definitions of `specs/` here and above name these variants.
 /// One of two rules.
+// Not the kit's `either`: definitions of specs/, here and in crates above, name these variants.
 #[derive(Clone, Copy)]
 pub enum Either<A, B> {
     First(A),

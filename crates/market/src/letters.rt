@@ -9,8 +9,8 @@ use crate::kinds::{Side, Sides};
 use crate::limits::MAX_PARTIES;
 use faults::MonthFault;
 
-// A `char`, since the project asks for this form.
 /// The side that a letter names; `index` is where it stands among the letters.
+// A match on a `char`: the project asks for this form.
 pub(crate) fn side_of(letter: char, index: usize) -> Result<Side, MonthFault>
     ensures { result ≡ side_of letter index }
 {
@@ -33,7 +33,7 @@ impl Sides {
             return Err(MonthFault::PartyCount);
         }
         let mut slots = [Side::Seller; MAX_PARTIES];
-        // By index: after a `zip` over `iter_mut` a proof no longer knows the elements of `slots`, so the clause `sides` stays open.
+        // By index: after a `zip` with `slots.iter_mut()` no proof knows what `slots` holds, so the clause `sides` stayed open.
         for (index, letter) in letters.iter().enumerate() {
             slots[index] = side_of(char::from(*letter), index)?;
         }
