@@ -1,5 +1,5 @@
 -- Tables whose rows stand in the order of their refusals, so that the first row that holds is exactly the earliest.
-use Rattle.std.proofs.Common.{◌≡◌, ℕ, zero, suc, ◌+◌, ◌*◌, ◌<◌, ◌≤◌, Bool, ◌⊎◌, List, [], ◌∷◌, ◌++◌, Some, None, Option, sym, refl, ap, ◌∙◌, subst, inl, inr, mul-suc, arith}
+use Rattle.std.proofs.Common.{◌≡◌, ℕ, zero, suc, ◌+◌, ◌*◌, ◌<◌, ◌≤◌, Bool, ◌⊎◌, List, [], ◌∷◌, ◌++◌, Some, None, Option, refl, subst, inl, inr, mul-suc, arith}
 use Rattle.std.specs.Option.{option_map}
 use Rattle.faults.specs.declared.answer.Refusal.{Refusal}
 use Rattle.faults.specs.Orders.{rank, Earlier}
@@ -7,16 +7,10 @@ use Rattle.faults.specs.Rows.{first, renamed, rows_below, Holds, Earliest, Exact
 use Rattle.faults.proofs.Firsts.{Listed, Ascending, listed, no_first, exact}
 
 pub earlier_asym : (a b : Refusal) → Earlier a b → Earlier b a → ⊥
-earlier_asym a b (inl p) (inl q) = omega arith
-earlier_asym a b (inl p) (inr q) = omega arith
-earlier_asym a b (inr p) (inl q) = omega arith
-earlier_asym a b (inr p) (inr q) = omega arith
+earlier_asym a b p q = grind arith
 
 pub earlier_trans : (a b c : Refusal) → Earlier a b → Earlier b c → Earlier a c
-earlier_trans a b c (inl p) (inl q) = inl (omega arith)
-earlier_trans a b c (inl p) (inr q) = inl (omega arith)
-earlier_trans a b c (inr p) (inl q) = inl (omega arith)
-earlier_trans a b c (inr p) (inr q) = inr (omega arith)
+earlier_trans a b c p q = grind arith
 
 -- what holds of each fault that is listed
 abbrev pub Each : {X : Type 0} → (X → Type 0) → List (X × Bool) → Type 0
@@ -25,8 +19,7 @@ Each P (row ∷ rows) = P row.0 × Each P rows
 
 pub each_listed : {X : Type 0} (P : X → Type 0) (rows : List (X × Bool)) → Each P rows → (fault : X) → Listed rows fault → P fault
 each_listed P [] all fault h = absurd h
-each_listed P (row ∷ rows) all fault (inl e) = subst P e all.0
-each_listed P (row ∷ rows) all fault (inr h) = each_listed P rows all.1 fault h
+each_listed P (row ∷ rows) all fault h = grind (arith, each_listed P rows all.1 fault)
 
 pub each-++ : {X : Type 0} (P : X → Type 0) (xs ys : List (X × Bool)) → Each P xs → Each P ys → Each P (xs ++ ys)
 each-++ P [] ys p q = q
@@ -38,18 +31,15 @@ each_weaker P Q (row ∷ rows) f p = (f row.0 p.0, each_weaker P Q rows f p.1)
 
 listed-++ : {X : Type 0} (xs ys : List (X × Bool)) (fault : X) → Listed (xs ++ ys) fault → Listed xs fault ⊎ Listed ys fault
 listed-++ [] ys fault h = inr h
-listed-++ (x ∷ xs) ys fault (inl e) = inl (inl e)
-listed-++ {X} (x ∷ xs) ys fault (inr h) = elim (listed-++ xs ys fault h) [ inl p ↦ inl (inr p) | inr q ↦ inr q ]
+listed-++ (x ∷ xs) ys fault h = grind (arith, listed-++ xs ys fault)
 
 holds-++ : {X : Type 0} (xs ys : List (X × Bool)) (fault : X) → Holds (xs ++ ys) fault → Holds xs fault ⊎ Holds ys fault
 holds-++ [] ys fault h = inr h
-holds-++ (x ∷ xs) ys fault (inl e) = inl (inl e)
-holds-++ {X} (x ∷ xs) ys fault (inr h) = elim (holds-++ xs ys fault h) [ inl p ↦ inl (inr p) | inr q ↦ inr q ]
+holds-++ (x ∷ xs) ys fault h = grind (arith, holds-++ xs ys fault)
 
 holds_left : {X : Type 0} (xs ys : List (X × Bool)) (fault : X) → Holds xs fault → Holds (xs ++ ys) fault
 holds_left [] ys fault h = absurd h
-holds_left (x ∷ xs) ys fault (inl e) = inl e
-holds_left (x ∷ xs) ys fault (inr h) = inr (holds_left xs ys fault h)
+holds_left (x ∷ xs) ys fault h = grind (arith, holds_left xs ys fault)
 
 holds_right : {X : Type 0} (xs ys : List (X × Bool)) (fault : X) → Holds ys fault → Holds (xs ++ ys) fault
 holds_right [] ys fault h = h
@@ -72,14 +62,14 @@ module _ {X : Type 0} (refusal : X → Refusal) where
   ascending_linked fault [] h = (λ g l. absurd l, tt)
   ascending_linked fault (row ∷ rows) h =
       let rest = ascending_linked row.0 rows h.1 in (
-        λ g l. elim l [ inl e ↦ subst (λ x. Before fault x) e h.0 | inr r ↦ earlier_trans (refusal fault) (refusal row.0) (refusal g) h.0 (rest.0 g r) ],
+        λ g l. grind (arith, h.0, rest.0 g, earlier_trans (refusal fault) (refusal row.0) (refusal g)),
         rest,
       )
 
   pub ascending-++ : (xs ys : List (X × Bool)) → Ascending Before xs → Ascending Before ys → ((f g : X) → Listed xs f → Listed ys g → Before f g) → Ascending Before (xs ++ ys)
   ascending-++ [] ys p q h = q
   ascending-++ (x ∷ xs) ys p q h = (
-    λ g l. elim (listed-++ xs ys g l) [ inl r ↦ p.0 g r | inr r ↦ h x.0 g (inl refl) r ],
+    λ g l. grind (arith, listed-++ xs ys g, p.0 g, h x.0 g),
     ascending-++ xs ys p.1 q (λ f g l r. h f g (inr l) r),
   )
 
@@ -87,11 +77,7 @@ module _ {X : Type 0} (refusal : X → Refusal) where
   pub ascending_apart : (order low middle high : ℕ) (xs ys : List (X × Bool)) → Ascending Before xs → Ascending Before ys
       → Each (Placed order low middle) xs → Each (Placed order middle high) ys → Ascending Before (xs ++ ys)
   ascending_apart order low middle high xs ys p q inside past =
-      ascending-++ xs ys p q
-      (λ f g l r.
-      let here = each_listed (Placed order low middle) xs inside f l in
-      let there = each_listed (Placed order middle high) ys past g r in
-      inr (here.0 ∙ sym there.0, omega arith))
+      ascending-++ xs ys p q (λ f g l r. grind (arith, each_listed (Placed order low middle) xs inside f, each_listed (Placed order middle high) ys past g))
 
   -- items that stand one after the other, each of so many bytes
   pub ascending_below : (order start size : ℕ) (rows : ℕ → List (X × Bool)) (n : ℕ) → ((i : ℕ) → Ascending Before (rows i))
@@ -124,30 +110,26 @@ module _ {X : Type 0} (refusal : X → Refusal) where
             let same : fault ≡ f = cc in
             subst (Earliest Before (xs ++ ys)) same (
               holds_left xs ys fault here.0,
-              λ g h b. elim (holds-++ xs ys g h) [ inl l ↦ here.1 g l b | inr r ↦ earlier_asym (refusal fault) (refusal g) (after g r) b ],
+              λ g h b. grind (arith, holds-++ xs ys g, here.1 g, earlier_asym (refusal fault) (refusal g), after g),
             );
-        only = λ f h. elim (holds-++ xs ys f h.0) [
-          | inl l ↦ sym e ∙ front.only f (l, λ g m b. h.1 g (holds_left xs ys g m) b)
-          | inr r ↦ absurd (h.1 fault (holds_left xs ys fault here.0) (after f r))
-        ];
+        only = λ f h. grind (arith, holds-++ xs ys f, front.only f, h.1, holds_left xs ys, after f);
       }
 
 -- where no row of the first table holds, the second answers for both
 pub exact_behind : {X : Type 0} (before : X → X → Type 0) (xs ys : List (X × Bool)) (answer : Option X) → None ≡ first xs → Exact before ys answer → Exact before (xs ++ ys) answer
-exact_behind {X} before xs ys answer none e =
-    let right : (f : X) → Holds (xs ++ ys) f → Holds ys f = λ f h. elim (holds-++ xs ys f h) [ inl l ↦ absurd (no_first xs (sym none) f l) | inr r ↦ r ] in
+exact_behind before xs ys answer none e =
+    let right : (f : _) → Holds (xs ++ ys) f → Holds ys f = λ f h. grind (arith, holds-++ xs ys f, no_first xs) in
     record {
       none = λ is f h. e.none is f (right f h);
-      some = λ f is. (holds_right xs ys f (e.some f is).0, λ g h b. (e.some f is).1 g (right g h) b);
-      only = λ f h. e.only f (right f h.0, λ g m b. h.1 g (holds_right xs ys g m) b);
+      some = λ f is. (holds_right xs ys f (e.some f is).0, λ g h. (e.some f is).1 g (right g h));
+      only = λ f h. e.only f (right f h.0, λ g m. h.1 g (holds_right xs ys g m));
     }
 
 -- a table whose faults are named anew, the order being the same
 module _ {X Y : Type 0} (name : X → Y) (before : Y → Y → Type 0) where
   holds_renamed : (rows : List (X × Bool)) (x : X) → Holds rows x → Holds (renamed name rows) (name x)
   holds_renamed [] x h = h
-  holds_renamed (row ∷ rows) x (inl h) = inl (ap name h.0, h.1)
-  holds_renamed (row ∷ rows) x (inr h) = inr (holds_renamed rows x h)
+  holds_renamed (row ∷ rows) x h = grind (arith, holds_renamed rows x)
 
   named_before : (rows : List (X × Bool)) (y : Y) → Holds (renamed name rows) y → (x : X) × (name x ≡ y) × Holds rows x
   named_before [] y h = absurd h
@@ -162,28 +144,20 @@ module _ {X Y : Type 0} (name : X → Y) (before : Y → Y → Type 0) where
   pub exact_renamed : (rows : List (X × Bool)) (answer : Option X) → Exact (λ a b. before (name a) (name b)) rows answer → Exact before (renamed name rows) (option_map name answer)
   exact_renamed rows answer e =
       record {
-        none = λ is y h. let found = named_before rows y h in e.none (no_name answer is) found.0 found.2;
+        none = λ is y h. let found = named_before rows y h in e.none (grind arith) found.0 found.2;
         some = λ y is.
             let found = some_name answer y is in
             let here = e.some found.0 found.2 in
             subst (Earliest before (renamed name rows)) found.1 (
               holds_renamed rows found.0 here.0,
-              λ z h b. let other = named_before rows z h in here.1 other.0 other.2 (subst (λ w. before w (name found.0)) (sym other.1) b),
+              λ z h b. let other = named_before rows z h in grind (arith, here.1 other.0 other.2),
             );
         only = λ y h.
             let found = named_before rows y h.0 in
-            ap (option_map name)
-            (e.only found.0 (
-              found.2,
-              λ z m b. h.1 (name z) (holds_renamed rows z m) (subst (before (name z)) found.1 b),
-            ))
-            ∙ ap Some found.1;
+            let is = e.only found.0 (found.2, λ z m b. grind (arith, h.1 (name z), holds_renamed rows z)) in
+            grind arith;
       }
     where
-      no_name : (o : Option X) → option_map name o ≡ None → o ≡ None
-      no_name None is = refl
-      no_name (Some x) is = grind arith
-
       some_name : (o : Option X) (y : Y) → option_map name o ≡ Some y → (x : X) × (name x ≡ y) × (o ≡ Some x)
       some_name None y is = grind arith
       some_name (Some x) y is = (x, cc, refl)

@@ -1,3 +1,4 @@
 pub mod Orders
 pub mod Refusals
 pub mod Rows
+pub mod Words

@@ -2,12 +2,12 @@ ghost use Rattle.std.specs.Prelude.{◌≡◌};
 ghost use Rattle.faults.specs.declared.causes.RecordFault.TheVariants.{File};
 ghost use Rattle.faults.specs.declared.causes.MonthFault.TheVariants.{Record};
 
-/// A section of a day's file, in the order of the header's three pairs.
+/// A section of a day's file; its number is that of the header's pair that says where it lies.
 #[derive(Clone, Copy, Debug, PartialEq, Eq)]
 pub enum Section {
-    Quantities,
-    NodePrices,
-    Contracts,
+    Quantities = 1,
+    NodePrices = 2,
+    Contracts = 3,
 }
 
 /// What is wrong with a file before a record of it is read.

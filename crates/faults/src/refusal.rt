@@ -1,8 +1,8 @@
 ghost use Rattle.std.specs.Prelude.{◌≡◌};
-ghost use Rattle.faults.specs.Refusals.{refused, pair_of, file_refusal, record_refusal, month_refusal};
+ghost use Rattle.faults.specs.Refusals.{refused, file_refusal, record_refusal, month_refusal};
 
 use crate::answer::Refusal;
-use crate::causes::{FileFault, MonthFault, RecordFault, Section};
+use crate::causes::{FileFault, MonthFault, RecordFault};
 
 impl Refusal {
     fn new(layer: u8, number: u8, place: u64) -> Refusal
@@ -16,19 +16,6 @@ impl Refusal {
     }
 }
 
-impl Section {
-    /// The number of the header's pair that says where the section lies: 1 to 3.
-    fn pair(self) -> u64
-        ensures { result ≡ pair_of self }
-    {
-        match self {
-            Section::Quantities => 1,
-            Section::NodePrices => 2,
-            Section::Contracts => 3,
-        }
-    }
-}
-
 impl FileFault {
     /// Layer, number and place of a file's fault: layer 1, numbers 11 to 14.
     pub fn refusal(self) -> Refusal
@@ -37,8 +24,8 @@ impl FileFault {
         match self {
             FileFault::TooShort(length) => Refusal::new(1, 11, length as u64),
             FileFault::WrongByte(offset) => Refusal::new(1, 12, offset as u64),
-            FileFault::OutOfOrder(section) => Refusal::new(1, 13, section.pair()),
-            FileFault::WrongLength(section) => Refusal::new(1, 14, section.pair()),
+            FileFault::OutOfOrder(section) => Refusal::new(1, 13, section as u64),
+            FileFault::WrongLength(section) => Refusal::new(1, 14, section as u64),
         }
     }
 }

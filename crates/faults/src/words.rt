@@ -1,8 +1,13 @@
+ghost use Rattle.std.specs.Prelude.{Some};
+ghost use Rattle.faults.specs.Words.{section_words, file_words, record_words, month_words};
+
 use crate::causes::{FileFault, MonthFault, RecordFault, Section};
 use std::error::Error;
 use std::fmt;
 
 impl fmt::Display for Section {
+    ghost output = { λ section. Some (section_words section) };
+
     fn fmt<W: fmt::Write>(&self, f: &mut fmt::Formatter<W>) -> fmt::Result {
         f.write_str(match self {
             Section::Quantities => "quantities",
@@ -13,6 +18,8 @@ impl fmt::Display for Section {
 }
 
 impl fmt::Display for FileFault {
+    ghost output = { λ fault. Some (file_words fault) };
+
     fn fmt<W: fmt::Write>(&self, f: &mut fmt::Formatter<W>) -> fmt::Result {
         match self {
             FileFault::TooShort(_) => f.write_str("shorter than the header of 32 bytes"),
@@ -28,6 +35,8 @@ impl fmt::Display for FileFault {
 impl Error for FileFault {}
 
 impl fmt::Display for RecordFault {
+    ghost output = { λ fault. Some (record_words fault) };
+
     fn fmt<W: fmt::Write>(&self, f: &mut fmt::Formatter<W>) -> fmt::Result {
         match self {
             RecordFault::File(fault) => write!(f, "{fault}"),
@@ -44,6 +53,8 @@ impl fmt::Display for RecordFault {
 impl Error for RecordFault {}
 
 impl fmt::Display for MonthFault {
+    ghost output = { λ fault. Some (month_words fault) };
+
     fn fmt<W: fmt::Write>(&self, f: &mut fmt::Formatter<W>) -> fmt::Result {
         match self {
             MonthFault::DayCount => f.write_str("not 28 to 31 days"),

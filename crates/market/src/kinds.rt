@@ -10,6 +10,7 @@ pub enum Side {
 }
 
 /// The sides of a month's parties, party 0 first: 1 to 64 of them.
+// An array and a count: the library crates have no heap, and `Sides` is `Copy`, as an `ArrayVec` is not.
 #[derive(Clone, Copy)]
 pub struct Sides {
     pub(crate) count: usize,

@@ -10,6 +10,7 @@ use crate::limits::MAX_PARTIES;
 use faults::MonthFault;
 
 /// The side that a letter names; `index` is where it stands among the letters.
+// A match on a `char`: the project asks for this form.
 pub(crate) fn side_of(letter: char, index: usize) -> Result<Side, MonthFault>
     ensures { result ≡ side_of letter index }
 {
@@ -28,10 +29,11 @@ impl Sides {
         ensures sides { IfOk result (λ s. map letter_of (sides_in s) ≡ letters.now) }
     {
         let count = letters.len();
-        if count < 1 || count > MAX_PARTIES {
+        if !(1..=MAX_PARTIES).contains(&count) {
             return Err(MonthFault::PartyCount);
         }
         let mut slots = [Side::Seller; MAX_PARTIES];
+        // By index: after a `zip` with `slots.iter_mut()` no proof knows what `slots` holds, so the clause `sides` stayed open.
         for (index, letter) in letters.iter().enumerate() {
             slots[index] = side_of(char::from(*letter), index)?;
         }
@@ -42,6 +44,6 @@ impl Sides {
     pub fn as_slice(&self) -> &[Side]
         ensures { result.now ≡ sides_in self.now }
     {
-        &self.slots[0..self.count]
+        &self.slots[..self.count]
     }
 }

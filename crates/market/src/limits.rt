@@ -19,24 +19,25 @@ const MAX_PRICE_MIL: i64 = 5_000_000;
 pub fn beyond_day_ahead(kwh: i64) -> bool
     ensures { result ≡ beyond_day_ahead kwh }
 {
-    MAX_KWH < kwh || kwh < 0
+    !(0..=MAX_KWH).contains(&kwh)
 }
 
 /// Whether a reading is outside the limits of its side: 0 to 4,000,000 kWh, and for a seller down to −4,000,000.
 pub fn beyond_metered(side: Side, kwh: i64) -> bool
     ensures { result ≡ beyond_metered side kwh }
 {
-    match side {
-        Side::Seller => kwh < -MAX_KWH || MAX_KWH < kwh,
-        Side::Buyer => kwh < 0 || MAX_KWH < kwh,
-    }
+    let least = match side {
+        Side::Seller => -MAX_KWH,
+        Side::Buyer => 0,
+    };
+    !(least..=MAX_KWH).contains(&kwh)
 }
 
 /// Whether a price is outside −5,000,000 to 5,000,000 mil.
 pub fn beyond_price(mil: i64) -> bool
     ensures { result ≡ beyond_price mil }
 {
-    mil < -MAX_PRICE_MIL || MAX_PRICE_MIL < mil
+    !(-MAX_PRICE_MIL..=MAX_PRICE_MIL).contains(&mil)
 }
 
 /// The reading that is kept: a seller's negative one counts as 0.
@@ -44,7 +45,7 @@ pub fn kept(side: Side, kwh: i64) -> i64
     ensures { result ≡ kept_of side kwh }
 {
     match side {
-        Side::Seller if kwh < 0 => 0,
-        _ => kwh,
+        Side::Seller => kwh.max(0),
+        Side::Buyer => kwh,
     }
 }
