@@ -1,5 +1,5 @@
 use crate::words::{WordFault, end_of_words, name_of, next_number, next_word};
-use crate::yuan::Yuan;
+use crate::yuan::{Fen, Micro};
 use bills::{Beyond, HourAmounts, hour_amounts, three_part_bill, two_part_bill};
 use books::{ThreePart, TwoPart};
 use market::{Contract, Either, Line, Side, UnifiedPrices};
@@ -116,7 +116,7 @@ impl fmt::Display for Payment {
     fn fmt<W: fmt::Write>(&self, f: &mut fmt::Formatter<W>) -> fmt::Result {
         let party = name_of(self.side);
         let verb = if self.micro < 0 { "receives" } else { "pays" };
-        let yuan = Yuan::<1_000_000>::unsigned(self.micro);
+        let yuan = Micro::new(self.micro).abs();
         write!(f, "the {party} {verb} {yuan} yuan")
     }
 }
@@ -132,7 +132,7 @@ impl fmt::Display for Amounts {
         } = self.hour;
         let side = self.side;
         let owed = self.owed;
-        let fen = Yuan::<100>::unsigned(to_fen(owed));
+        let fen = Fen::new(to_fen(owed)).abs();
         let paid = |micro| Payment { side, micro };
         writeln!(f, " {contracts} {spot} {difference} {mismatch}")?;
         writeln!(f, "  contract charge: {}", paid(contracts))?;

@@ -27,10 +27,11 @@ impl fmt::Display for Failure<'_> {
             Failure::Unreadable(path) => write!(f, "error (cannot read {path})"),
             Failure::Refused(fault) => {
                 let refusal = fault.refusal();
-                let layer = refusal.layer;
-                let number = refusal.number;
-                let place = refusal.place;
-                write!(f, "refused {layer} {number} {place} ({fault})")
+                write!(
+                    f,
+                    "refused {} {} {} ({fault})",
+                    refusal.layer, refusal.number, refusal.place
+                )
             }
             Failure::Beyond(fault) => write!(f, "error ({fault})"),
             Failure::Unshareable(fault) => write!(f, "error ({fault})"),

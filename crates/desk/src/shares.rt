@@ -1,7 +1,7 @@
 use crate::failure::Failure;
 use crate::words::{WordFault, next_number, next_word};
-use crate::yuan::Yuan;
-use market::Either;
+use crate::yuan::Fen;
+use market::{Either, MAX_PARTIES};
 use sharing::{ExactPart, LargestRemainder, Running, Unshareable, divide, exact_part};
 use std::alloc::Global;
 use std::fmt;
@@ -15,20 +15,20 @@ pub(crate) struct Division {
     weights: Vec<u64>,
 }
 
-/// A fund divided, and the shares in fen.
+/// A fund divided, and the shares in fen; past the last party there stand zeros.
 #[derive(Clone, Copy)]
 pub(crate) struct Shares<'a> {
     division: &'a Division,
-    shares: [i64; 64],
+    shares: [i64; MAX_PARTIES],
 }
 
-/// One party's share beside its exact part of the fund.
+/// One party's share beside its exact part of the fund's size.
 #[derive(Clone, Copy)]
 struct Portion {
     party: usize,
     share: i64,
+    fund: i64,
     part: ExactPart,
-    negative: bool,
 }
 
 /// A rule by its name. A function and no `TryFrom`: the types are other crates'.
@@ -71,13 +71,13 @@ impl Division {
 
     /// A party's share beside its exact part; none where there is no such party.
     fn portion(&self, party: usize, share: i64) -> Option<Portion> {
-        let part = exact_part(&self.rule, &self.weights, self.fund, party)?;
-        let negative = self.fund < 0;
+        let fund = self.fund;
+        let part = exact_part(&self.rule, &self.weights, fund, party)?;
         Some(Portion {
             party,
             share,
+            fund,
             part,
-            negative,
         })
     }
 }
@@ -92,8 +92,8 @@ impl fmt::Display for Portion {
         } = self.part;
         let party = self.party;
         let share = self.share;
-        let yuan = Yuan::<100>::signed(share);
-        let sign = if self.negative && (whole != 0 || rest != 0) {
+        let yuan = Fen::new(share);
+        let sign = if self.fund < 0 && (whole != 0 || rest != 0) {
             "minus "
         } else {
             ""

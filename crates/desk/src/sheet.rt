@@ -1,5 +1,5 @@
 use crate::words::name_of;
-use crate::yuan::Yuan;
+use crate::yuan::Mil;
 use dayfile::DayFile;
 use faults::MonthFault;
 use market::{Contract, Side, Sides};
@@ -31,11 +31,10 @@ impl Sheet<'_> {
     ) -> fmt::Result {
         let kind = name_of(side);
         let energy = energy_of(&self.file, party, side);
-        let day_ahead = energy.day_ahead;
-        let metered = energy.metered;
         write!(
             f,
-            "\n  party {party:>2} {kind:<6} day-ahead {day_ahead:>9} kWh  metered {metered:>9} kWh"
+            "\n  party {party:>2} {kind:<6} day-ahead {:>9} kWh  metered {:>9} kWh",
+            energy.day_ahead, energy.metered
         )
     }
 
@@ -72,7 +71,7 @@ fn write_contract<W: fmt::Write>(f: &mut fmt::Formatter<W>, contract: Contract) 
         kwh,
         price,
     } = contract;
-    let yuan = Yuan::<1000>::signed(price);
+    let yuan = Mil::new(price);
     write!(
         f,
         "\n    hour {hour:>2} party {seller:>2} to party {buyer:>2} {kwh:>7} kWh at {price:>8} mil ({yuan} yuan/MWh)"

@@ -46,7 +46,7 @@ pub(crate) fn next_number<'a>(words: &mut SplitWhitespace<'a>) -> Result<i64, Wo
 }
 
 /// Refuses a word that is left.
-pub(crate) fn end_of_words<'a>(mut words: SplitWhitespace<'a>) -> Result<(), WordFault<'a>> {
+pub(crate) fn end_of_words(mut words: SplitWhitespace<'_>) -> Result<(), WordFault<'_>> {
     match words.next() {
         Some(_) => Err(WordFault::NoCommand),
         None => Ok(()),

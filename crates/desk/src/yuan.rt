@@ -11,9 +11,14 @@ pub(crate) struct Yuan<const PER: u64> {
     ghost some: { 0 < PER },
 }
 
+pub(crate) type Fen = Yuan<100>;
+
+pub(crate) type Mil = Yuan<1000>;
+
+pub(crate) type Micro = Yuan<1_000_000>;
+
 impl<const PER: u64> Yuan<PER> {
-    /// An amount with its sign.
-    pub(crate) fn signed(amount: i64) -> Yuan<PER>
+    pub(crate) fn new(amount: i64) -> Yuan<PER>
         requires { 0 < PER }
     {
         Yuan {
@@ -22,13 +27,11 @@ impl<const PER: u64> Yuan<PER> {
         }
     }
 
-    /// An amount whose sign is told in words.
-    pub(crate) fn unsigned(amount: i64) -> Yuan<PER>
-        requires { 0 < PER }
-    {
+    /// The amount without its sign.
+    pub(crate) fn abs(self) -> Yuan<PER> {
         Yuan {
             negative: false,
-            size: amount.unsigned_abs(),
+            size: self.size,
         }
     }
 }
