@@ -1,14 +1,15 @@
-use crate::numbers::{WordFault, next_number, next_word, print_word_fault};
-use crate::yuan::{print_fen, print_micro};
+use crate::words::{WordFault, end_of_words, name_of, next_number, next_word};
+use crate::yuan::{Fen, Micro};
 use bills::{Beyond, HourAmounts, hour_amounts, three_part_bill, two_part_bill};
 use books::{ThreePart, TwoPart};
 use market::{Contract, Either, Line, Side, UnifiedPrices};
 use money::to_fen;
-use std::io;
+use std::fmt;
+use std::str::SplitWhitespace;
 
 /// What `amounts` asks about: a rule book, a party's side, its contract and line of an hour, the hour's unified prices.
 #[derive(Clone, Copy)]
-struct Question {
+pub(crate) struct Question {
     book: Either<ThreePart, TwoPart>,
     side: Side,
     contract: Contract,
@@ -16,6 +17,22 @@ struct Question {
     unified: UnifiedPrices,
 }
 
+/// The amounts of the hour in micro, and what the party owes for it by the province's own formula.
+#[derive(Clone, Copy)]
+pub(crate) struct Amounts {
+    side: Side,
+    hour: HourAmounts,
+    owed: i64,
+}
+
+/// An amount in micro that a party pays, or receives where it is negative.
+#[derive(Clone, Copy)]
+struct Payment {
+    side: Side,
+    micro: i64,
+}
+
+/// A rule book by its name. A function and no `TryFrom`: the types are other crates'.
 fn book_of(word: &str) -> Result<Either<ThreePart, TwoPart>, WordFault<'_>> {
     match word {
         "three-part" => Ok(Either::First(ThreePart)),
@@ -24,60 +41,12 @@ fn book_of(word: &str) -> Result<Either<ThreePart, TwoPart>, WordFault<'_>> {
     }
 }
 
+/// A side by its letter. A function and no `TryFrom`: the type is another crate's.
 fn side_of(word: &str) -> Result<Side, WordFault<'_>> {
     match word {
         "S" => Ok(Side::Seller),
         "B" => Ok(Side::Buyer),
         _ => Err(WordFault::NoSide(word)),
-    }
-}
-
-/// Reads the words `BOOK SIDE QC PC QD QM PD PR UD UR`.
-fn question_of(rest: &str) -> Result<Question, WordFault<'_>> {
-    let mut words = rest.split_whitespace();
-    let book = book_of(next_word(&mut words)?)?;
-    let side = side_of(next_word(&mut words)?)?;
-    let contract = Contract {
-        seller: 0,
-        buyer: 1,
-        hour: 1,
-        kwh: next_number(&mut words)?,
-        price: next_number(&mut words)?,
-    };
-    let line = Line {
-        day_ahead: next_number(&mut words)?,
-        metered: next_number(&mut words)?,
-        day_ahead_price: next_number(&mut words)?,
-        real_time_price: next_number(&mut words)?,
-    };
-    let unified = UnifiedPrices {
-        day_ahead: next_number(&mut words)?,
-        real_time: next_number(&mut words)?,
-    };
-    match words.next() {
-        Some(_) => Err(WordFault::Count),
-        None => Ok(Question {
-            book,
-            side,
-            contract,
-            line,
-            unified,
-        }),
-    }
-}
-
-/// What a rule book cannot be asked about, in words.
-fn beyond_reason(beyond: Beyond) -> &'static str {
-    match beyond {
-        Beyond::ContractCount => "more than 256 contracts",
-        Beyond::DayAheadEnergy => "QD is not within 0 to 4000000 kWh",
-        Beyond::MeteredEnergy => "QM is not within 0 to 4000000 kWh",
-        Beyond::DayAheadPrice => "PD is not within -5000000 to 5000000 mil",
-        Beyond::RealTimePrice => "PR is not within -5000000 to 5000000 mil",
-        Beyond::DayAheadUnified => "UD is not within -5000000 to 5000000 mil",
-        Beyond::RealTimeUnified => "UR is not within -5000000 to 5000000 mil",
-        Beyond::ContractEnergy(_) => "QC is not within 0 to 4000000 kWh",
-        Beyond::ContractPrice(_) => "PC is not within -5000000 to 5000000 mil",
     }
 }
 
@@ -96,76 +65,92 @@ fn bill_of(question: Question) -> Result<i64, Beyond> {
     }
 }
 
-/// One amount: who pays or receives it, in yuan.
-fn print_amount(rt: &HostRuntime, name: &str, party: &str, micro: i64) -> io::Result<()> {
-    let verb = if micro < 0 { "receives" } else { "pays" };
-    print!(rt; "  {name}: the {party} {verb} ")?;
-    print_micro(rt, micro.unsigned_abs())?;
-    print!(rt; " yuan")
+impl Question {
+    /// Reads the words `BOOK SIDE QC PC QD QM PD PR UD UR`.
+    pub(crate) fn parse<'a>(mut words: SplitWhitespace<'a>) -> Result<Question, WordFault<'a>> {
+        let book = book_of(next_word(&mut words)?)?;
+        let side = side_of(next_word(&mut words)?)?;
+        let contract = Contract {
+            seller: 0,
+            buyer: 1,
+            hour: 1,
+            kwh: next_number(&mut words)?,
+            price: next_number(&mut words)?,
+        };
+        let line = Line {
+            day_ahead: next_number(&mut words)?,
+            metered: next_number(&mut words)?,
+            day_ahead_price: next_number(&mut words)?,
+            real_time_price: next_number(&mut words)?,
+        };
+        let unified = UnifiedPrices {
+            day_ahead: next_number(&mut words)?,
+            real_time: next_number(&mut words)?,
+        };
+        end_of_words(words)?;
+        Ok(Question {
+            book,
+            side,
+            contract,
+            line,
+            unified,
+        })
+    }
+
+    /// The amounts of the hour, or which number no rule book can be asked about.
+    pub(crate) fn amounts(self) -> Result<Amounts, Beyond> {
+        let Question {
+            book,
+            side,
+            contract,
+            line,
+            unified,
+        } = self;
+        let hour = hour_amounts(&book, side, &[contract], line, unified)?;
+        let owed = bill_of(self)?;
+        Ok(Amounts { side, hour, owed })
+    }
+}
+
+impl fmt::Display for Payment {
+    fn fmt<W: fmt::Write>(&self, f: &mut fmt::Formatter<W>) -> fmt::Result {
+        let party = name_of(self.side);
+        let verb = if self.micro < 0 { "receives" } else { "pays" };
+        let yuan = Micro::new(self.micro).abs();
+        write!(f, "the {party} {verb} {yuan} yuan")
+    }
 }
 
 /// The four amounts in micro, and under them what they mean.
-fn print_amounts(
-    rt: &HostRuntime,
-    words: &str,
-    side: Side,
-    amounts: HourAmounts,
-) -> io::Result<()> {
-    let HourAmounts {
-        contracts,
-        spot,
-        difference,
-        mismatch,
-    } = amounts;
-    let party = match side {
-        Side::Seller => "seller",
-        Side::Buyer => "buyer",
-    };
-    println!(rt; "{words} -> ok {contracts} {spot} {difference} {mismatch}")?;
-    print_amount(rt, "contract charge", party, contracts)?;
-    println!(rt)?;
-    print_amount(rt, "spot charge", party, spot)?;
-    println!(rt)?;
-    print_amount(rt, "of it difference part", party, difference)?;
-    println!(rt; ", what node prices add to unified ones")?;
-    print_amount(rt, "of it mismatch part", party, mismatch)?;
-    println!(rt; ", the energy at unified prices")
-}
-
-/// What the party owes for the hour, and the fen that it comes to.
-fn print_bill(rt: &HostRuntime, side: Side, owed: i64) -> io::Result<()> {
-    let party = match side {
-        Side::Seller => "seller",
-        Side::Buyer => "buyer",
-    };
-    print_amount(rt, "together, by the province's own formula", party, owed)?;
-    print!(rt; ", rounded to ")?;
-    print_fen(rt, to_fen(owed).unsigned_abs())?;
-    println!(rt)
-}
-
-/// Answers `amounts`.
-pub(crate) fn run_amounts(rt: &HostRuntime, words: &str, rest: &str) -> io::Result<()> {
-    let question = match question_of(rest) {
-        Ok(question) => question,
-        Err(fault) => return print_word_fault(rt, words, fault),
-    };
-    let Question {
-        book,
-        side,
-        contract,
-        line,
-        unified,
-    } = question;
-    let answer = hour_amounts(&book, side, &[contract], line, unified);
-    match (answer, bill_of(question)) {
-        (Ok(amounts), Ok(owed)) => {
-            print_amounts(rt, words, side, amounts)?;
-            print_bill(rt, side, owed)
-        }
-        (Err(beyond), _) | (_, Err(beyond)) => {
-            let reason = beyond_reason(beyond);
-            println!(rt; "{words} -> error ({reason})")
-        }
+impl fmt::Display for Amounts {
+    fn fmt<W: fmt::Write>(&self, f: &mut fmt::Formatter<W>) -> fmt::Result {
+        let HourAmounts {
+            contracts,
+            spot,
+            difference,
+            mismatch,
+        } = self.hour;
+        let side = self.side;
+        let owed = self.owed;
+        let fen = Fen::new(to_fen(owed)).abs();
+        let paid = |micro| Payment { side, micro };
+        writeln!(f, " {contracts} {spot} {difference} {mismatch}")?;
+        writeln!(f, "  contract charge: {}", paid(contracts))?;
+        writeln!(f, "  spot charge: {}", paid(spot))?;
+        writeln!(
+            f,
+            "  of it difference part: {}, what node prices add to unified ones",
+            paid(difference)
+        )?;
+        writeln!(
+            f,
+            "  of it mismatch part: {}, the energy at unified prices",
+            paid(mismatch)
+        )?;
+        write!(
+            f,
+            "  together, by the province's own formula: {}, rounded to {fen} yuan",
+            paid(owed)
+        )
     }
 }

@@ -1,29 +1,30 @@
 ghost use Rattle.std.specs.Prelude.{◌≡◌, [], codes, ◌≢◌};
 
-/// What is done with a file: the check, or the check and a sheet of what the file holds.
+use crate::amounts::Question;
+use crate::failure::Failure;
+use crate::shares::Division;
+use crate::words::{WordFault, end_of_words, next_word};
+use std::alloc::Global;
+use std::str::SplitWhitespace;
+
+/// A day's file as a command names it: the kind letters of its parties, and its path.
 #[derive(Clone, Copy)]
-pub(crate) enum Task {
-    Check,
-    Show,
+pub(crate) struct NamedFile<'a> {
+    pub(crate) letters: &'a [u8],
+    pub(crate) path: &'a str,
 }
 
-/// A command of the script; its words as they stand there.
-#[derive(Clone, Copy)]
+/// A command of the script.
+#[derive(Drop)]
 pub(crate) enum Command<'a> {
-    /// a task on a file, by kind letters and a path
-    OnFile(Task, &'a str, &'a str),
-    /// the amounts of a party's hour, by the words after the name
-    Amounts(&'a str),
-    /// a fund divided, by the words after the name
-    Divide(&'a str),
-}
-
-/// What a line of the script says: nothing, a command, or something else.
-#[derive(Clone, Copy)]
-pub(crate) enum Request<'a> {
-    Nothing,
-    Of(Command<'a>),
-    Unknown,
+    /// the check of a file
+    Check(NamedFile<'a>),
+    /// the check of a file, and a sheet of what it holds
+    Show(NamedFile<'a>),
+    /// the amounts of a party's hour
+    Amounts(Question),
+    /// a fund divided
+    Divide(Division),
 }
 
 /// The part of a line before a comment, without blanks around it.
@@ -34,36 +35,34 @@ pub(crate) fn words_of(line: &str) -> &str {
     }
 }
 
-/// What the words of a line ask for.
-pub(crate) fn request_of(words: &str) -> Request<'_> {
-    let Some(name) = words.split_whitespace().next() else {
-        return Request::Nothing;
-    };
-    let Some(rest) = words.strip_prefix(name) else {
-        return Request::Unknown;
-    };
-    match name {
-        "check" => file_request(Task::Check, rest),
-        "show" => file_request(Task::Show, rest),
-        "amounts" => Request::Of(Command::Amounts(rest)),
-        "divide" => Request::Of(Command::Divide(rest)),
-        _ => Request::Unknown,
-    }
-}
-
-/// A task on a file, where the words are kind letters and a path.
-fn file_request(task: Task, rest: &str) -> Request<'_> {
-    let mut parts = rest.split_whitespace();
-    match (parts.next(), parts.next(), parts.next()) {
-        (Some(letters), Some(file), None) => Request::Of(Command::OnFile(task, letters, file)),
-        _ => Request::Unknown,
-    }
-}
-
 /// The bytes of kind letters; `-` stands for none.
-pub(crate) fn letters_of(word: &str) -> &[u8]
+fn letters_of(word: &str) -> &[u8]
     ensures dash { word.now ≡ codes "-" → result.now ≡ [] }
     ensures letters { (word.now ≢ codes "-") → result.now ≡ word.now }
 {
     if word == "-" { b"" } else { word.as_bytes() }
+}
+
+impl<'a> NamedFile<'a> {
+    /// Reads the words `LETTERS PATH`.
+    fn parse(mut words: SplitWhitespace<'a>) -> Result<NamedFile<'a>, WordFault<'a>> {
+        let letters = letters_of(next_word(&mut words)?);
+        let path = next_word(&mut words)?;
+        end_of_words(words)?;
+        Ok(NamedFile { letters, path })
+    }
+}
+
+impl<'a> Command<'a> {
+    /// What the words of a line ask for.
+    pub(crate) fn parse(alloc: Global, words: &'a str) -> Result<Command<'a>, Failure<'a>> {
+        let mut words = words.split_whitespace();
+        match next_word(&mut words)? {
+            "check" => Ok(Command::Check(NamedFile::parse(words)?)),
+            "show" => Ok(Command::Show(NamedFile::parse(words)?)),
+            "amounts" => Ok(Command::Amounts(Question::parse(words)?)),
+            "divide" => Ok(Command::Divide(Division::parse(alloc, words)?)),
+            _ => Err(Failure::Words(WordFault::NoCommand)),
+        }
+    }
 }

@@ -5,11 +5,11 @@
 
 mod amounts;
 mod command;
-mod divide;
+mod failure;
 mod lines;
-mod numbers;
-mod reason;
+mod shares;
 mod sheet;
+mod words;
 mod yuan;
 
 use lines::run_line;

@@ -1,63 +1,92 @@
-use crate::yuan::print_mil;
+use crate::words::name_of;
+use crate::yuan::Mil;
 use dayfile::DayFile;
-use market::{Contract, Side};
-use std::io;
+use faults::MonthFault;
+use market::{Contract, Side, Sides};
+use std::fmt;
 use totals::{energy_of, seller_ran};
 
 /// The sheet of an accepted file: the day, parties with their energy, hours in which no seller ran, contracts.
-pub(crate) fn print_sheet(rt: &HostRuntime, file: &DayFile<'_>, sides: &[Side]) -> io::Result<()> {
-    let day = file.day();
-    println!(rt; "  day {day}")?;
-    for (party, side) in sides.iter().enumerate() {
-        print_party(rt, file, party, *side)?;
+#[derive(Clone, Copy)]
+pub(crate) struct Sheet<'a> {
+    file: DayFile<'a>,
+    sides: Sides,
+}
+
+impl<'a> Sheet<'a> {
+    /// The same check as the scheduler's, and the sheet of a file that passes.
+    pub(crate) fn accept(bytes: &'a [u8], letters: &[u8]) -> Result<Sheet<'a>, MonthFault> {
+        let sides = Sides::from_letters(letters)?;
+        let file = DayFile::accept(bytes, sides.as_slice())?;
+        Ok(Sheet { file, sides })
     }
-    print_idle_hours(rt, file, sides)?;
-    print_contracts(rt, file)
 }
 
-fn print_party(rt: &HostRuntime, file: &DayFile<'_>, party: usize, side: Side) -> io::Result<()> {
-    let kind = match side {
-        Side::Seller => "seller",
-        Side::Buyer => "buyer ",
-    };
-    let energy = energy_of(file, party, side);
-    let day_ahead = energy.day_ahead;
-    let metered = energy.metered;
-    println!(rt; "  party {party:>2} {kind} day-ahead {day_ahead:>9} kWh  metered {metered:>9} kWh")
-}
+impl Sheet<'_> {
+    fn write_party<W: fmt::Write>(
+        &self,
+        f: &mut fmt::Formatter<W>,
+        party: usize,
+        side: Side,
+    ) -> fmt::Result {
+        let kind = name_of(side);
+        let energy = energy_of(&self.file, party, side);
+        write!(
+            f,
+            "\n  party {party:>2} {kind:<6} day-ahead {:>9} kWh  metered {:>9} kWh",
+            energy.day_ahead, energy.metered
+        )
+    }
 
-fn print_idle_hours(rt: &HostRuntime, file: &DayFile<'_>, sides: &[Side]) -> io::Result<()> {
-    print!(rt; "  hours in which no seller ran:")?;
-    let mut none = true;
-    for hour in 1..25 {
-        if !seller_ran(file, sides, hour) {
-            none = false;
-            print!(rt; " {hour}")?;
+    fn write_idle_hours<W: fmt::Write>(&self, f: &mut fmt::Formatter<W>) -> fmt::Result {
+        f.write_str("\n  hours in which no seller ran:")?;
+        let sides = self.sides.as_slice();
+        let mut idle = (1..25)
+            .filter(|hour| !seller_ran(&self.file, sides, *hour))
+            .peekable();
+        if idle.peek().is_none() {
+            f.write_str(" none")?;
         }
-    }
-    println!(rt; "{}", if none { " none" } else { "" })
-}
-
-fn print_contracts(rt: &HostRuntime, file: &DayFile<'_>) -> io::Result<()> {
-    let count = file.contract_count();
-    println!(rt; "  contracts: {count}")?;
-    for k in 0..count {
-        if let Some(contract) = file.contract(k) {
-            print_contract(rt, contract)?;
+        for hour in idle {
+            write!(f, " {hour}")?;
         }
+        Ok(())
     }
-    Ok(())
+
+    fn write_contracts<W: fmt::Write>(&self, f: &mut fmt::Formatter<W>) -> fmt::Result {
+        let count = self.file.contract_count();
+        write!(f, "\n  contracts: {count}")?;
+        for contract in (0..count).filter_map(|k| self.file.contract(k)) {
+            write_contract(f, contract)?;
+        }
+        Ok(())
+    }
 }
 
-fn print_contract(rt: &HostRuntime, contract: Contract) -> io::Result<()> {
-    let seller = contract.seller;
-    let buyer = contract.buyer;
-    let hour = contract.hour;
-    let kwh = contract.kwh;
-    let price = contract.price;
-    print!(rt;
-        "    hour {hour:>2} party {seller:>2} to party {buyer:>2} {kwh:>7} kWh at {price:>8} mil ("
-    )?;
-    print_mil(rt, price)?;
-    println!(rt; " yuan/MWh)")
+fn write_contract<W: fmt::Write>(f: &mut fmt::Formatter<W>, contract: Contract) -> fmt::Result {
+    let Contract {
+        seller,
+        buyer,
+        hour,
+        kwh,
+        price,
+    } = contract;
+    let yuan = Mil::new(price);
+    write!(
+        f,
+        "\n    hour {hour:>2} party {seller:>2} to party {buyer:>2} {kwh:>7} kWh at {price:>8} mil ({yuan} yuan/MWh)"
+    )
+}
+
+/// Each line begins with its line break.
+impl fmt::Display for Sheet<'_> {
+    fn fmt<W: fmt::Write>(&self, f: &mut fmt::Formatter<W>) -> fmt::Result {
+        let day = self.file.day();
+        write!(f, "\n  day {day}")?;
+        for (party, side) in self.sides.as_slice().iter().enumerate() {
+            self.write_party(f, party, *side)?;
+        }
+        self.write_idle_hours(f)?;
+        self.write_contracts(f)
+    }
 }

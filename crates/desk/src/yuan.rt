@@ -1,24 +1,47 @@
-use std::io;
+ghost use Rattle.std.specs.Prelude.{◌<◌};
 
-/// A price with its yuan before the point and its mil after it.
-pub(crate) fn print_mil(rt: &HostRuntime, mil: i64) -> io::Result<()> {
-    let sign = if mil < 0 { "-" } else { "" };
-    let size = mil.unsigned_abs();
-    let yuan = size / 1000;
-    let rest = size % 1000;
-    print!(rt; "{sign}{yuan}.{rest:03}")
+use std::fmt;
+
+/// An amount in a unit of which a yuan has `PER`, a power of 10. It is printed with yuan before the point, and as many digits
+/// after it as `PER` has zeros.
+#[derive(Clone, Copy)]
+pub(crate) struct Yuan<const PER: u64> {
+    negative: bool,
+    size: u64,
+    ghost some: { 0 < PER },
 }
 
-/// Micro with their yuan before the point.
-pub(crate) fn print_micro(rt: &HostRuntime, micro: u64) -> io::Result<()> {
-    let yuan = micro / 1_000_000;
-    let rest = micro % 1_000_000;
-    print!(rt; "{yuan}.{rest:06}")
+pub(crate) type Fen = Yuan<100>;
+
+pub(crate) type Mil = Yuan<1000>;
+
+pub(crate) type Micro = Yuan<1_000_000>;
+
+impl<const PER: u64> Yuan<PER> {
+    pub(crate) fn new(amount: i64) -> Yuan<PER>
+        requires { 0 < PER }
+    {
+        Yuan {
+            negative: amount < 0,
+            size: amount.unsigned_abs(),
+        }
+    }
+
+    /// The amount without its sign.
+    pub(crate) fn abs(self) -> Yuan<PER> {
+        Yuan {
+            negative: false,
+            size: self.size,
+        }
+    }
 }
 
-/// Fen with their yuan before the point.
-pub(crate) fn print_fen(rt: &HostRuntime, fen: u64) -> io::Result<()> {
-    let yuan = fen / 100;
-    let rest = fen % 100;
-    print!(rt; "{yuan}.{rest:02} yuan")
+impl<const PER: u64> fmt::Display for Yuan<PER> {
+    fn fmt<W: fmt::Write>(&self, f: &mut fmt::Formatter<W>) -> fmt::Result {
+        let sign = if self.negative { "-" } else { "" };
+        let yuan = self.size / PER;
+        let rest = self.size % PER;
+        let digits = PER.ilog10() as usize;
+        write!(f, "{sign}{yuan}.{rest:0digits$}")
+    }
 }
