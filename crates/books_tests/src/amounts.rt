@@ -183,7 +183,6 @@ const FARTHEST: UnifiedPrices = UnifiedPrices {
 
 #[test]
 fn the_largest_numbers(rt: HostRuntime) {
-    let none: [Contract; 0] = [];
     let contract = Contract {
         seller: 0,
         buyer: 1,
@@ -193,7 +192,7 @@ fn the_largest_numbers(rt: HostRuntime) {
     };
     let many = [contract; 256];
     assert_eq!(rt;
-        bill(&ThreePart, Side::Seller, &none, LARGEST, FARTHEST),
+        bill(&ThreePart, Side::Seller, &[], LARGEST, FARTHEST),
         Ok(-40_000_000_000_000)
     );
     assert_eq!(rt;
