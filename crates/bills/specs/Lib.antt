@@ -1,3 +1,4 @@
 pub mod Asking
 pub mod Hours
 pub mod Provinces
+pub mod ProvincesLemmas

@@ -20,6 +20,8 @@ pub enum Beyond {
     ContractPrice(usize),
 }
 
+// A row of the table is a test with its own fault: one helper for all, with `?`, would be no shorter.
+
 /// Whether a party's hour can be asked about.
 pub(crate) fn check_hour(line: Line, unified: UnifiedPrices) -> Result<(), Beyond>
     ensures { result_err result ≡ first (hour_rows line unified) }

@@ -1,4 +1,5 @@
 pub mod Inputs
+pub mod Owing
 pub mod ThreePartBook
 pub mod TwoPartBook
 pub mod Formulas

@@ -14,35 +14,17 @@ impl<A: RuleBook, B: RuleBook> RuleBook for Either<A, B> {
 
     ghost mismatch = { chosen A.RuleBook.mismatch B.RuleBook.mismatch };
 
-    ghost opposite = { elim [
-      | First b ↦ λ kwh price u a. A.RuleBook.opposite b kwh price u a
-      | Second b ↦ λ kwh price u a. B.RuleBook.opposite b kwh price u a
-    ] };
+    ghost opposite = { elim [ First b ↦ A.RuleBook.opposite b | Second b ↦ B.RuleBook.opposite b ] };
 
-    ghost splits = { elim [
-      | First b ↦ λ side line u a. A.RuleBook.splits b side line u a
-      | Second b ↦ λ side line u a. B.RuleBook.splits b side line u a
-    ] };
+    ghost splits = { elim [ First b ↦ A.RuleBook.splits b | Second b ↦ B.RuleBook.splits b ] };
 
-    ghost contracts = { elim [
-      | First b ↦ λ side kwh price u a. A.RuleBook.contracts b side kwh price u a
-      | Second b ↦ λ side kwh price u a. B.RuleBook.contracts b side kwh price u a
-    ] };
+    ghost contracts = { elim [ First b ↦ A.RuleBook.contracts b | Second b ↦ B.RuleBook.contracts b ] };
 
-    ghost spots = { elim [
-      | First b ↦ λ side line u a. A.RuleBook.spots b side line u a
-      | Second b ↦ λ side line u a. B.RuleBook.spots b side line u a
-    ] };
+    ghost spots = { elim [ First b ↦ A.RuleBook.spots b | Second b ↦ B.RuleBook.spots b ] };
 
-    ghost differences = { elim [
-      | First b ↦ λ side line u a. A.RuleBook.differences b side line u a
-      | Second b ↦ λ side line u a. B.RuleBook.differences b side line u a
-    ] };
+    ghost differences = { elim [ First b ↦ A.RuleBook.differences b | Second b ↦ B.RuleBook.differences b ] };
 
-    ghost mismatches = { elim [
-      | First b ↦ λ side line u a. A.RuleBook.mismatches b side line u a
-      | Second b ↦ λ side line u a. B.RuleBook.mismatches b side line u a
-    ] };
+    ghost mismatches = { elim [ First b ↦ A.RuleBook.mismatches b | Second b ↦ B.RuleBook.mismatches b ] };
 
     fn contract_charge(&self, side: Side, kwh: i64, price: i64, unified: UnifiedPrices) -> i64 {
         match self {

@@ -1,5 +1,5 @@
 use crate::pool::Pool;
-use bills::{Beyond, HourAmounts, hour_amounts, three_part_bill, two_part_bill};
+use bills::{Beyond, HourAmounts, bill, hour_amounts};
 use books::{RuleBook, ThreePart, TwoPart};
 use market::{Contract, Either, Line, Side, UnifiedPrices};
 
@@ -32,30 +32,30 @@ const SOLD: [Contract; 1] = [Contract {
     price: 350_000,
 }];
 
-/// The four amounts of an hour.
-fn amounts<B: RuleBook>(book: &B, side: Side, line: Line) -> Option<(i64, i64, i64, i64)> {
-    match hour_amounts(book, side, &SOLD, line, UNIFIED) {
-        Ok(
-            HourAmounts {
-                contracts,
-                spot,
-                difference,
-                mismatch,
-            },
-        ) => Some((contracts, spot, difference, mismatch)),
-        Err(_) => None,
-    }
+/// The amounts of an hour with this contract.
+fn amounts<B: RuleBook>(book: &B, side: Side, line: Line) -> Result<HourAmounts, Beyond> {
+    hour_amounts(book, side, &SOLD, line, UNIFIED)
 }
 
 #[test]
 fn three_part_day(rt: HostRuntime) {
     assert_eq!(rt;
         amounts(&ThreePart, Side::Seller, PLANT),
-        Some((-25_000_000, -380_000_000, 0, -380_000_000))
+        Ok(HourAmounts {
+            contracts: -25_000_000,
+            spot: -380_000_000,
+            difference: 0,
+            mismatch: -380_000_000,
+        })
     );
     assert_eq!(rt;
         amounts(&ThreePart, Side::Buyer, USER),
-        Some((25_000_000, 370_000_000, 0, 370_000_000))
+        Ok(HourAmounts {
+            contracts: 25_000_000,
+            spot: 370_000_000,
+            difference: 0,
+            mismatch: 370_000_000,
+        })
     );
 }
 
@@ -63,11 +63,21 @@ fn three_part_day(rt: HostRuntime) {
 fn two_part_day(rt: HostRuntime) {
     assert_eq!(rt;
         amounts(&TwoPart, Side::Seller, PLANT),
-        Some((25_000_000, -380_000_000, 100_000_000, -480_000_000))
+        Ok(HourAmounts {
+            contracts: 25_000_000,
+            spot: -380_000_000,
+            difference: 100_000_000,
+            mismatch: -480_000_000,
+        })
     );
     assert_eq!(rt;
         amounts(&TwoPart, Side::Buyer, USER),
-        Some((-25_000_000, 460_000_000, 0, 460_000_000))
+        Ok(HourAmounts {
+            contracts: -25_000_000,
+            spot: 460_000_000,
+            difference: 0,
+            mismatch: 460_000_000,
+        })
     );
 }
 
@@ -87,15 +97,25 @@ fn one_of_two_books(rt: HostRuntime) {
 
 #[test]
 fn a_third_book(rt: HostRuntime) {
-    let pool = Pool { real_time: true };
+    let pool = Pool::RealTime;
     assert_eq!(rt;
         amounts(&pool, Side::Seller, PLANT),
-        Some((25_000_000, -480_000_000, 0, -480_000_000))
+        Ok(HourAmounts {
+            contracts: 25_000_000,
+            spot: -480_000_000,
+            difference: 0,
+            mismatch: -480_000_000,
+        })
     );
-    let early = Pool { real_time: false };
+    let early = Pool::DayAhead;
     assert_eq!(rt;
         amounts(&early, Side::Buyer, USER),
-        Some((25_000_000, 345_000_000, 0, 345_000_000))
+        Ok(HourAmounts {
+            contracts: 25_000_000,
+            spot: 345_000_000,
+            difference: 0,
+            mismatch: 345_000_000,
+        })
     );
     let nested: Either<Pool, Either<ThreePart, TwoPart>> = Either::Second(Either::First(ThreePart));
     assert_eq!(rt;
@@ -110,34 +130,41 @@ const APART: UnifiedPrices = UnifiedPrices {
     real_time: 390_000,
 };
 
-fn bill(answer: Result<i64, Beyond>) -> Option<i64> {
-    match answer {
-        Ok(owed) => Some(owed),
-        Err(_) => None,
-    }
-}
-
 #[test]
 fn bills_by_the_provinces_formulas(rt: HostRuntime) {
     // 500 at 350,000 and 500 at −10,000, then 500 at 300,000 and 200 at 400,000
     assert_eq!(rt;
-        bill(three_part_bill(Side::Seller, &SOLD, PLANT, APART)),
-        Some(-400_000_000)
+        bill(&ThreePart, Side::Seller, &SOLD, PLANT, APART),
+        Ok(-400_000_000)
     );
     // 500 at 350,000, then 400 at 310,000 and 250 at 390,000
     assert_eq!(rt;
-        bill(three_part_bill(Side::Buyer, &SOLD, USER, APART)),
-        Some(396_500_000)
+        bill(&ThreePart, Side::Buyer, &SOLD, USER, APART),
+        Ok(396_500_000)
     );
     // 500 at 360,000, then 700 at 400,000 and 1,000 at −100,000
     assert_eq!(rt;
-        bill(two_part_bill(Side::Seller, &SOLD, PLANT, APART)),
-        Some(-360_000_000)
+        bill(&TwoPart, Side::Seller, &SOLD, PLANT, APART),
+        Ok(-360_000_000)
     );
     // 500 at 350,000, then 650 at 390,000
     assert_eq!(rt;
-        bill(two_part_bill(Side::Buyer, &SOLD, USER, APART)),
-        Some(428_500_000)
+        bill(&TwoPart, Side::Buyer, &SOLD, USER, APART),
+        Ok(428_500_000)
+    );
+}
+
+#[test]
+fn bills_of_one_of_two_books(rt: HostRuntime) {
+    let first: Either<ThreePart, TwoPart> = Either::First(ThreePart);
+    let second: Either<ThreePart, TwoPart> = Either::Second(TwoPart);
+    assert_eq!(rt;
+        bill(&first, Side::Seller, &SOLD, PLANT, APART),
+        Ok(-400_000_000)
+    );
+    assert_eq!(rt;
+        bill(&second, Side::Seller, &SOLD, PLANT, APART),
+        Ok(-360_000_000)
     );
 }
 
@@ -156,7 +183,6 @@ const FARTHEST: UnifiedPrices = UnifiedPrices {
 
 #[test]
 fn the_largest_numbers(rt: HostRuntime) {
-    let none: [Contract; 0] = [];
     let contract = Contract {
         seller: 0,
         buyer: 1,
@@ -166,31 +192,13 @@ fn the_largest_numbers(rt: HostRuntime) {
     };
     let many = [contract; 256];
     assert_eq!(rt;
-        bill(three_part_bill(Side::Seller, &none, LARGEST, FARTHEST)),
-        Some(-40_000_000_000_000)
+        bill(&ThreePart, Side::Seller, &[], LARGEST, FARTHEST),
+        Ok(-40_000_000_000_000)
     );
     assert_eq!(rt;
-        bill(three_part_bill(Side::Buyer, &many, LARGEST, FARTHEST)),
-        Some(10_200_000_000_000_000)
+        bill(&ThreePart, Side::Buyer, &many, LARGEST, FARTHEST),
+        Ok(10_200_000_000_000_000)
     );
-}
-
-/// What cannot be asked about, as a number to compare: 1 to 7, and 10 or 20 with the contract's index.
-fn told(answer: Result<i64, Beyond>) -> usize {
-    let Err(beyond) = answer else {
-        return 0;
-    };
-    match beyond {
-        Beyond::ContractCount => 1,
-        Beyond::DayAheadEnergy => 2,
-        Beyond::MeteredEnergy => 3,
-        Beyond::DayAheadPrice => 4,
-        Beyond::RealTimePrice => 5,
-        Beyond::DayAheadUnified => 6,
-        Beyond::RealTimeUnified => 7,
-        Beyond::ContractEnergy(index) => index.wrapping_add(10),
-        Beyond::ContractPrice(index) => index.wrapping_add(20),
-    }
 }
 
 #[test]
@@ -199,30 +207,60 @@ fn hours_that_cannot_be_asked_about(rt: HostRuntime) {
     let mut line = PLANT;
     line.metered = -1;
     line.real_time_price = 5_000_001;
-    assert_eq!(rt; told(two_part_bill(seller, &SOLD, line, UNIFIED)), 3);
+    assert_eq!(rt;
+        bill(&TwoPart, seller, &SOLD, line, UNIFIED),
+        Err(Beyond::MeteredEnergy)
+    );
     line.metered = 0;
-    assert_eq!(rt; told(two_part_bill(seller, &SOLD, line, UNIFIED)), 5);
+    assert_eq!(rt;
+        bill(&TwoPart, seller, &SOLD, line, UNIFIED),
+        Err(Beyond::RealTimePrice)
+    );
     line.day_ahead = 4_000_001;
-    assert_eq!(rt; told(two_part_bill(seller, &SOLD, line, UNIFIED)), 2);
+    assert_eq!(rt;
+        bill(&TwoPart, seller, &SOLD, line, UNIFIED),
+        Err(Beyond::DayAheadEnergy)
+    );
     line = PLANT;
     line.day_ahead_price = i64::MIN;
-    assert_eq!(rt; told(three_part_bill(seller, &SOLD, line, UNIFIED)), 4);
+    assert_eq!(rt;
+        bill(&ThreePart, seller, &SOLD, line, UNIFIED),
+        Err(Beyond::DayAheadPrice)
+    );
     let mut unified = UNIFIED;
     unified.real_time = -5_000_001;
-    assert_eq!(rt; told(three_part_bill(seller, &SOLD, PLANT, unified)), 7);
+    assert_eq!(rt;
+        bill(&ThreePart, seller, &SOLD, PLANT, unified),
+        Err(Beyond::RealTimeUnified)
+    );
     unified.day_ahead = i64::MAX;
-    assert_eq!(rt; told(three_part_bill(seller, &SOLD, PLANT, unified)), 6);
+    assert_eq!(rt;
+        bill(&ThreePart, seller, &SOLD, PLANT, unified),
+        Err(Beyond::DayAheadUnified)
+    );
 }
 
 #[test]
 fn contracts_that_cannot_be_asked_about(rt: HostRuntime) {
     let many = [SOLD[0]; 257];
-    assert_eq!(rt; told(two_part_bill(Side::Buyer, &many, USER, UNIFIED)), 1);
+    assert_eq!(rt;
+        bill(&TwoPart, Side::Buyer, &many, USER, UNIFIED),
+        Err(Beyond::ContractCount)
+    );
     let mut three = [SOLD[0]; 3];
     three[2].kwh = -1;
-    assert_eq!(rt; told(two_part_bill(Side::Buyer, &three, USER, UNIFIED)), 12);
+    assert_eq!(rt;
+        bill(&TwoPart, Side::Buyer, &three, USER, UNIFIED),
+        Err(Beyond::ContractEnergy(2))
+    );
     three[1].price = 5_000_001;
-    assert_eq!(rt; told(two_part_bill(Side::Buyer, &three, USER, UNIFIED)), 21);
+    assert_eq!(rt;
+        bill(&TwoPart, Side::Buyer, &three, USER, UNIFIED),
+        Err(Beyond::ContractPrice(1))
+    );
     three[1].kwh = 4_000_001;
-    assert_eq!(rt; told(two_part_bill(Side::Buyer, &three, USER, UNIFIED)), 11);
+    assert_eq!(rt;
+        bill(&TwoPart, Side::Buyer, &three, USER, UNIFIED),
+        Err(Beyond::ContractEnergy(1))
+    );
 }

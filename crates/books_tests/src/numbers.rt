@@ -19,8 +19,7 @@ const FEN: [(i64, i64); 11] = [
 
 #[test]
 fn micro_to_fen(rt: HostRuntime) {
-    for case in FEN {
-        let (micro, fen) = case;
+    for (micro, fen) in FEN {
         assert_eq!(rt; to_fen(micro), fen);
     }
 }
@@ -43,8 +42,7 @@ const QUOTIENTS: [(i64, i64, Option<i64>); 12] = [
 
 #[test]
 fn rounded_quotients(rt: HostRuntime) {
-    for case in QUOTIENTS {
-        let (dividend, divisor, quotient) = case;
+    for (dividend, divisor, quotient) in QUOTIENTS {
         assert_eq!(rt; rounded_quotient(dividend, divisor), quotient);
     }
 }
