@@ -23,6 +23,7 @@ impl<'a> DayFile<'a> {
         if usize::from(self.parties) != sides.len() {
             return Err(RecordFault::PartyCount);
         }
+        // by the line's number and not party by party: its offset comes from the same number, so chunks would be no plainer
         let lines = 24 * sides.len();
         scan(lines, |line| {
             check_quantities(

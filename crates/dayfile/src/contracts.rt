@@ -13,7 +13,7 @@ use market::{Contract, MAX_KWH, Side, beyond_price};
 fn taken_apart(bytes: &[u8; 12]) -> (Contract, u8)
     ensures { (result.0 ≡ contract_in bytes.now 0) × (result.1 ≡ byte_at bytes.now 3) }
 {
-    // the slice of the array: Rattle makes no proof of `rest` where the array itself is taken apart
+    // the array's slice, whose other arm cannot be reached: of an array itself taken apart, by value or reference, Rattle proves no `rest`
     let [seller, buyer, hour, zero, rest @ ..] = &bytes[..] else {
         unreachable()
     };

@@ -6,6 +6,7 @@ ghost use Rattle.dayfile.specs.Records.{InOrder};
 use crate::parts::Layout;
 
 /// A day's file of a right structure: its bytes, its party count and its layout, which is the one that the header gives, and whose sections stand in order.
+// No `impl Model`: callers copy a file, and Rattle has no `Copy` beside a model.
 #[derive(Clone, Copy)]
 pub struct DayFile<'a> {
     pub(crate) bytes: &'a [u8],
