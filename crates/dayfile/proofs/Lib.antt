@@ -2,4 +2,3 @@ mod Accepting
 mod Checking
 mod Opening
 mod Ordering
-mod Scanning

@@ -1,5 +1,6 @@
 -- The rows of a file's check stand in the order of their refusals.
-use Rattle.std.proofs.Common.{◌≡◌, ℕ, ◌+◌, ◌*◌, ◌<◌, ◌≤◌, Bool, true, cond, not, eqb, List, [], ◌∷◌, ◌++◌, length, drop, Some, None, Option, sym, refl, ap, ◌∙◌, subst, inl, inr, arith, lit<}
+use Rattle.std.proofs.Common.{◌≡◌, ℕ, ◌+◌, ◌*◌, ◌<◌, ◌≤◌, Bool, not, eqb, List, [], ◌∷◌, ◌++◌, length, drop, Some, Option, sym, refl, ◌∙◌, subst, inl, inr, arith, lit<, rules}
+use Rattle.std.proofs.lemmas.Bool.{cases_eq}
 use Rattle.faults.specs.Orders.{rank, RecordEarlier}
 use Rattle.faults.specs.Refusals.{record_refusal}
 use Rattle.faults.specs.Rows.{first, Exact}
@@ -21,50 +22,12 @@ use Rattle.dayfile.specs.Records.{item_at, item_rows, part_rows, record_rows, ch
 -- each row of the structural check has a rank below that of the records
 structure_ranks : (file : List ℕ) (n : ℕ) → Each (λ f. rank (record_refusal f) < 16) (structure_rows file n)
 unfolding structure_rows
-structure_ranks file n =
-    (lit< tt, (lit< tt, (lit< tt, (lit< tt, (lit< tt, (lit< tt, (lit< tt, (lit< tt, (lit< tt, (lit< tt, (lit< tt, (lit< tt, (lit< tt, (lit< tt, tt))))))))))))))
+structure_ranks file n = search (rules, lit<)
 
 -- the rows by number, and of one number by place
 structure_ascends : (file : List ℕ) (n : ℕ) → Ascending RecordEarlier (structure_rows file n)
 unfolding structure_rows
-structure_ascends file n =
-    ascending_linked record_refusal (File (TooShort (length file))) (drop 1 (structure_rows file n)) (
-      inl (lit< tt),
-      (
-        inr (refl, lit< tt),
-        (
-          inr (refl, lit< tt),
-          (
-            inr (refl, lit< tt),
-            (
-              inr (refl, lit< tt),
-              (
-                inr (refl, lit< tt),
-                (
-                  inl (lit< tt),
-                  (
-                    inr (refl, lit< tt),
-                    (
-                      inr (refl, lit< tt),
-                      (
-                        inl (lit< tt),
-                        (
-                          inr (refl, lit< tt),
-                          (
-                            inr (refl, lit< tt),
-                            (inl (lit< tt), tt),
-                          ),
-                        ),
-                      ),
-                    ),
-                  ),
-                ),
-              ),
-            ),
-          ),
-        ),
-      ),
-    )
+structure_ascends file n = ascending_linked record_refusal (File (TooShort (length file))) (drop 1 (structure_rows file n)) (search (rules, inl, inr, lit<))
 
 -- the structural check answers exactly the earliest fault
 pub exact_structure : (file : List ℕ) (n : ℕ) {answer : Option RecordFault} → answer ≡ first (structure_rows file n) → Exact RecordEarlier (structure_rows file n) answer
@@ -152,20 +115,19 @@ before_records file layout sides f g low listed =
     let high : rank (record_refusal g) ≡ 16 = each_listed (λ x. rank (record_refusal x) ≡ 16) (record_rows file layout sides) (records_rank file layout sides) g listed in
     inl (omega arith)
 
--- the check of the records answers exactly the earliest fault: where the sides are not as many as the parties, and where they are
-pub exact_count : (file : List ℕ) (parties : ℕ) (layout : Layout) (sides : List Side) → not (eqb parties (length sides)) ≡ true
-    → Exact RecordEarlier (check_rows file parties layout sides) (Some PartyCount)
-exact_count file parties layout sides differ =
-    exact_front record_refusal ((PartyCount, not (eqb parties (length sides))) ∷ []) (record_rows file layout sides) (λ g l. absurd l, tt)
-    (λ f g l r. elim l [ inl e ↦ before_records file layout sides f g (subst (λ x. rank (record_refusal x) < 16) e (lit< tt)) r | inr n ↦ absurd n ])
-    PartyCount (ap (λ b. cond b (Some PartyCount) None) differ)
-
+-- the check of the records answers exactly the earliest fault
 pub exact_check : (file : List ℕ) (parties : ℕ) (layout : Layout) (sides : List Side) {answer : Option RecordFault} → answer ≡ first (check_rows file parties layout sides)
-    → parties ≡ length sides → InOrder file parties layout → Exact RecordEarlier (check_rows file parties layout sides) answer
-exact_check file parties layout sides e same laid =
-    subst (Exact RecordEarlier (check_rows file parties layout sides)) (sym e)
-    (exact_refusal record_refusal (check_rows file parties layout sides)
-    (λ g l. before_records file layout sides PartyCount g (lit< tt) l, records_ascend file layout sides (subst (λ n. InOrder file n layout) same laid)))
+    → InOrder file parties layout → Exact RecordEarlier (check_rows file parties layout sides) answer
+exact_check file parties layout sides e laid =
+    elim (cases_eq parties (length sides)) [
+      | inl same ↦ subst (Exact RecordEarlier (check_rows file parties layout sides)) (sym e)
+          (exact_refusal record_refusal (check_rows file parties layout sides)
+          (λ g l. before_records file layout sides PartyCount g (lit< tt) l, records_ascend file layout sides (subst (λ n. InOrder file n layout) same laid)))
+      | inr differ ↦ subst (Exact RecordEarlier (check_rows file parties layout sides)) (let counted : Some PartyCount ≡ first (check_rows file parties layout sides) = grind arith in counted ∙ sym e)
+          (exact_front record_refusal ((PartyCount, not (eqb parties (length sides))) ∷ []) (record_rows file layout sides) (λ g l. absurd l, tt)
+          (λ f g l r. elim l [ inl e ↦ before_records file layout sides f g (subst (λ x. rank (record_refusal x) < 16) e (lit< tt)) r | inr n ↦ absurd n ])
+          PartyCount (let counted : first ((PartyCount, not (eqb parties (length sides))) ∷ []) ≡ Some PartyCount = grind arith in counted))
+    ]
 
 structure_apart : (file : List ℕ) (sides : List Side) (f g : RecordFault) → Listed (structure_rows file (length sides)) f → Listed (record_rows file (layout_in file) sides) g → RecordEarlier f g
 structure_apart file sides f g l r =

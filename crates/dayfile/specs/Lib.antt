@@ -2,4 +2,5 @@ pub mod Accepted
 pub mod Bytes
 pub mod Layouts
 pub mod Records
+pub mod Scans
 pub mod Structure

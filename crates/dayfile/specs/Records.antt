@@ -64,6 +64,11 @@ abbrev pub is_seller : Side → Bool
 is_seller Seller = true
 is_seller Buyer = false
 
+-- a side is the one that is wanted
+abbrev pub is_side : Side → Side → Bool
+is_side Seller side = is_seller side
+is_side Buyer side = not (is_seller side)
+
 -- the seller is a party that sells, the buyer one that buys
 abbrev pub wrong_parties : List Side → ℕ → ℕ → Bool
 wrong_parties sides seller buyer =

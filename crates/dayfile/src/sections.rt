@@ -19,11 +19,13 @@ fn pair_at(section: Section) -> usize
     }
 }
 
-/// The offset just past a section.
-fn past(extent: Extent) -> usize
-    ensures { result ≡ past_of extent }
-{
-    extent.offset as usize + extent.length as usize
+impl Extent {
+    /// The offset just past the section.
+    fn past(self) -> usize
+        ensures { result ≡ past_of self }
+    {
+        self.offset as usize + self.length as usize
+    }
 }
 
 /// The extent of a section that starts no earlier than it may and ends within the file, or refusal 13.
@@ -37,7 +39,7 @@ fn expect_order(file: &[u8], section: Section, start: usize) -> Result<Extent, F
         offset: u32_at(file, at),
         length: u32_at(file, at + 4),
     };
-    if (extent.offset as usize) < start || file.len() < past(extent) {
+    if (extent.offset as usize) < start || file.len() < extent.past() {
         return Err(FileFault::OutOfOrder(section));
     }
     Ok(extent)
@@ -49,8 +51,7 @@ fn expect_length(file: &[u8], section: Section, bytes: u32) -> Result<(), FileFa
     ensures { result_err result ≡ first (length_row file.now section) }
 {
     let wrong = match section {
-        Section::Quantities => bytes != 192 * u32::from(byte_at(file, 5)),
-        Section::NodePrices => bytes != 192 * u32::from(byte_at(file, 5)),
+        Section::Quantities | Section::NodePrices => bytes != 192 * u32::from(byte_at(file, 5)),
         Section::Contracts => bytes % 12 != 0 || 3072 < bytes,
     };
     if wrong {
@@ -66,8 +67,8 @@ pub(crate) fn layout_of(file: &[u8]) -> Result<Layout, FileFault>
     ensures layout { IfOk result (λ l. l ≡ layout_in file.now) }
 {
     let quantities = expect_order(file, Section::Quantities, 32)?;
-    let prices = expect_order(file, Section::NodePrices, past(quantities))?;
-    let contracts = expect_order(file, Section::Contracts, past(prices))?;
+    let prices = expect_order(file, Section::NodePrices, quantities.past())?;
+    let contracts = expect_order(file, Section::Contracts, prices.past())?;
     expect_length(file, Section::Quantities, quantities.length)?;
     expect_length(file, Section::NodePrices, prices.length)?;
     expect_length(file, Section::Contracts, contracts.length)?;

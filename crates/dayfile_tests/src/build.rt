@@ -4,26 +4,22 @@ use std::alloc::{AllocError, Global};
 #[derive(Clone, Copy)]
 pub(crate) struct Shape(pub(crate) &'static str, pub(crate) u32, pub(crate) u32);
 
-/// Writes a number of four bytes, lowest first, at an offset of the file.
-pub(crate) fn put_word(file: &mut [u8], at: usize, word: u32) {
-    for (i, byte) in word.to_le_bytes().iter().enumerate() {
-        put_byte(file, at.wrapping_add(i), *byte);
+/// Writes bytes from an offset of the file on, as many of them as it has place for.
+pub(crate) fn put(file: &mut [u8], at: usize, bytes: &[u8]) {
+    for (place, byte) in file.iter_mut().skip(at).zip(bytes) {
+        *place = *byte;
     }
 }
 
-/// Writes a byte at an offset of the file, if it has one there.
-pub(crate) fn put_byte(file: &mut [u8], at: usize, byte: u8) {
-    if let Some(slot) = file.get_mut(at) {
-        *slot = byte;
-    }
+/// Writes a number of four bytes, lowest first, at an offset of the file.
+pub(crate) fn put_word(file: &mut [u8], at: usize, word: u32) {
+    put(file, at, &word.to_le_bytes());
 }
 
 /// The header of a file: its sections follow one another, each after a gap.
 fn put_header(file: &mut [u8], parties: u32, contracts: u32, gap: u32) {
-    for (i, byte) in b"DAY1\x01\x00\x03\x00".iter().enumerate() {
-        put_byte(file, i, *byte);
-    }
-    put_byte(file, 5, (parties & 0xff) as u8);
+    put(file, 0, b"DAY1\x01\x00\x03\x00");
+    put(file, 5, &[(parties & 0xff) as u8]);
     let lines = parties.wrapping_mul(192);
     let prices = gap.wrapping_mul(2).wrapping_add(lines).wrapping_add(32);
     let records = gap
@@ -39,13 +35,11 @@ fn put_header(file: &mut [u8], parties: u32, contracts: u32, gap: u32) {
 }
 
 /// Contracts of party 0 with party 1 in hour 24, of 4,000,000 kWh at 5,000,000 mil.
-fn put_contracts(file: &mut [u8], start: usize, contracts: u32) {
-    for k in 0..contracts {
-        let at = start.wrapping_add(12usize.wrapping_mul(k as usize));
-        put_byte(file, at.wrapping_add(1), 1);
-        put_byte(file, at.wrapping_add(2), 24);
-        put_word(file, at.wrapping_add(4), 4_000_000);
-        put_word(file, at.wrapping_add(8), 5_000_000);
+fn put_contracts(section: &mut [u8], contracts: u32) {
+    for contract in section.chunks_exact_mut(12).take(contracts as usize) {
+        put(contract, 1, &[1, 24]);
+        put_word(contract, 4, 4_000_000);
+        put_word(contract, 8, 5_000_000);
     }
 }
 
@@ -61,6 +55,8 @@ pub(crate) fn built(heap: Global, shape: Shape) -> Result<Vec<u8>, AllocError> {
         .wrapping_add(gap as usize);
     let mut file = vec![in heap; 0u8; size]?;
     put_header(file.as_mut_slice(), (parties & 0xff) as u32, contracts, gap);
-    put_contracts(file.as_mut_slice(), start, contracts);
+    if let Some(section) = file.as_mut_slice().get_mut(start..) {
+        put_contracts(section, contracts);
+    }
     Ok(file)
 }

@@ -35,14 +35,18 @@ apart file letters f g l r =
     let found = listed_renamed Record MonthEarlier (file_rows file (sides_named letters)) g r in
     subst (MonthEarlier f) found.1 (inl (let h : 11 ≤ rank (record_refusal found.0) = high found.0 in omega arith))
 
-pub by_letters : (file letters : List ℕ) (fault : MonthFault) → Some fault ≡ first (letter_rows letters)
-    → (Some fault ≡ first (day_rows file letters)) × Exact MonthEarlier (day_rows file letters) (Some fault)
+-- a fault of the letters is the day's, and exactly the earliest
+pub by_letters : (file letters : List ℕ) (fault : MonthFault) → Some fault ≡ first (letter_rows letters) → Some fault ≡ first (day_rows file letters)
 unfolding day_rows
-by_letters file letters fault e = (
-  sym (first-++ (letter_rows letters) (renamed Record (file_rows file (sides_named letters))) ∙ ap (λ o. option_or o (first (renamed Record (file_rows file (sides_named letters))))) (sym e)),
-  exact_front month_refusal (letter_rows letters) (renamed Record (file_rows file (sides_named letters))) (letters_ascend letters) (apart file letters) fault (sym e),
-)
+by_letters file letters fault e =
+    sym (first-++ (letter_rows letters) (renamed Record (file_rows file (sides_named letters))) ∙ ap (λ o. option_or o (first (renamed Record (file_rows file (sides_named letters))))) (sym e))
 
+pub exact_letters : (file letters : List ℕ) (fault : MonthFault) → Some fault ≡ first (letter_rows letters) → Exact MonthEarlier (day_rows file letters) (Some fault)
+unfolding day_rows
+exact_letters file letters fault e =
+    exact_front month_refusal (letter_rows letters) (renamed Record (file_rows file (sides_named letters))) (letters_ascend letters) (apart file letters) fault (sym e)
+
+-- where the letters have none, the file's answer is the day's
 pub by_file : (file letters : List ℕ) (sides : List Side) (answer : Option RecordFault) → map letter_of sides ≡ letters → None ≡ first (letter_rows letters) → answer ≡ first (file_rows file sides)
     → Exact RecordEarlier (file_rows file sides) answer
     → (option_map Record answer ≡ first (day_rows file letters)) × Exact MonthEarlier (day_rows file letters) (option_map Record answer)

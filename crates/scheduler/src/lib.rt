@@ -13,6 +13,7 @@ use faults::MonthFault;
 use market::Sides;
 
 /// Why a file is refused for parties of these kind letters, if it is: 2 for the number of letters, 3, 11 to 15, then 16 to 18 by their offset.
+#[tactic(auto, using(crate::proofs::Checking::by_letters, crate::proofs::Checking::exact_letters))]
 pub fn check_day(file: &[u8], letters: &[u8]) -> Result<(), MonthFault>
     ensures fault { result_err result ≡ first (day_rows file.now letters.now) }
     ensures exact { Exact MonthEarlier (day_rows file.now letters.now) (result_err result) }

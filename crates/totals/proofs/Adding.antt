@@ -1,25 +1,48 @@
 -- Lemmas on sums over the hours.
-use Rattle.std.proofs.Common.{◌≡◌, ℕ, ◌+◌, ℤ, pos, ◌+ℤ◌, sym, refl, ap, ◌∙◌, add-one, w64, SFits, to_z, of_z}
-use Rattle.std.proofs.lemmas.Int.{to_z-of_z}
-use Rattle.std.specs.Int.{int_wrap}
+use Rattle.std.proofs.Common.{◌≡◌, ◌≢◌, ℕ, zero, suc, ◌+◌, ◌<◌, Bool, true, false, List, length, get_or, ℤ, pos, Decides, refl, ap, ◌∙◌, subst, add-one, zero-add, arith}
+use Rattle.std.proofs.lemmas.List.FromFn.{length-enumerate_from, get_or-enumerate_from}
+use Rattle.std.specs.Bool.{MatchBool}
+use Rattle.std.specs.List.{fold, range_with_len, enumerate_from, HoldsAt, AllWithin}
+use Rattle.market.specs.declared.kinds.Side.{Side}
+use Rattle.market.specs.declared.kinds.Side.TheVariants.{Seller}
 use Rattle.totals.specs.declared.energy.Energy.{Energy}
-use Rattle.totals.specs.Sums.{up_to}
+use Rattle.totals.specs.Sums.{up_to, plus}
 
-pub up_none : (number : ℕ → ℤ) → pos 0 ≡ up_to number 0
+-- the energy of the hours 1 to n
+abbrev pub sums : (ℕ → Energy) → ℕ → Energy
+sums energy n = record { day_ahead = up_to (λ hour. (energy hour).day_ahead) n; metered = up_to (λ hour. (energy hour).metered) n }
+
+one_more : (energy : ℕ → Energy) (m : ℕ) → plus (sums energy m) (energy (m + 1)) ≡ sums energy (m + 1)
 unfolding up_to
-up_none number = refl
+one_more energy m = rw add-one refl
 
--- one hour more
-pub up_more : (number : ℕ → ℤ) (n : ℕ) (sum here next : ℤ) → sum ≡ up_to number n → here ≡ number (n + 1) → next ≡ int_wrap w64 (sum +ℤ here) → next ≡ up_to number (n + 1)
+-- the hours' energies added to those of the hours before
+sums_on : (energy : ℕ → Energy) (m n : ℕ) → fold (λ sum hour. plus sum (energy hour)) (sums energy m) (range_with_len (m + 1) n) ≡ sums energy (m + n)
+sums_on energy m zero = ap (sums energy) (let e : m ≡ m + 0 = omega arith in e)
+sums_on energy m (suc n) =
+    ap (λ sum. fold (λ sum hour. plus sum (energy hour)) sum (range_with_len (m + 1 + 1) n)) (one_more energy m) ∙ sums_on energy (m + 1) n
+    ∙ ap (sums energy) (let e : m + 1 + n ≡ m + suc n = omega arith in e)
+
+-- the energies of a day, added up from none
+pub day_sums : (energy : ℕ → Energy) (none sum : Energy) → none.day_ahead ≡ pos 0 → none.metered ≡ pos 0 → sum ≡ fold (λ sum hour. plus sum (energy hour)) none (range_with_len 1 24)
+    → sum ≡ sums energy 24
 unfolding up_to
-up_more number n sum here next s h e =
-    e ∙ ap (λ z. int_wrap w64 (z +ℤ here)) s ∙ ap (λ z. int_wrap w64 (up_to number n +ℤ z)) (h ∙ ap number (add-one n)) ∙ ap (up_to number) (sym (add-one n))
+day_sums energy none sum a m e =
+    let start : none ≡ sums energy 0 = ap (λ z. record { day_ahead = z; metered = none.metered }) a ∙ ap (λ z. record { day_ahead = pos 0; metered = z }) m in
+    e ∙ ap (λ first. fold (λ sum hour. plus sum (energy hour)) first (range_with_len 1 24)) start ∙ sums_on energy 0 24
 
--- the two sums of a day
-pub both_sums : (ahead reading : ℕ → ℤ) (n : ℕ) (a m : ℤ) → n ≡ 24 → a ≡ up_to ahead n → m ≡ up_to reading n
-    → ◌≡◌ {A = Energy} (record { day_ahead = a; metered = m }) (record { day_ahead = up_to ahead 24; metered = up_to reading 24 })
-both_sums ahead reading n a m end p q = cc
-
--- a number whose bits are 0 is 0
-pub zero_bits : (z : ℤ) → SFits w64 z → of_z w64 z ≡ 0 → z ≡ pos 0
-zero_bits z fits e = sym (to_z-of_z w64 z fits) ∙ ap (to_z w64) e
+-- some party sold something, said of the parties with their numbers
+pub from_any : (sold : ℕ → Side → ℤ) (sides : List Side) (r : Bool)
+    → MatchBool r ((k : ℕ) × (k < length (enumerate_from 0 sides)) × HoldsAt (λ p. sold p.0 p.1 ≢ pos 0) (enumerate_from 0 sides) k)
+    (AllWithin (λ p. sold p.0 p.1 ≡ pos 0) (enumerate_from 0 sides) 0 (length (enumerate_from 0 sides)))
+    → Decides r ((party : ℕ) × (party < length sides) × (sold party (get_or sides party Seller) ≢ pos 0))
+from_any sold sides true m =
+    let there : m.0 < length sides = omega (arith, length-enumerate_from 0 sides) in
+    let at = get_or-enumerate_from 0 sides m.0 (0, Seller) there in
+    (λ e. (m.0, there, subst (λ p. sold p.0 p.1 ≢ pos 0) (at ∙ ap (λ k. (k, get_or sides m.0 Seller)) (zero-add m.0)) (m.2 (0, Seller))), λ ran. refl)
+from_any sold sides false m = (
+  λ e. cc,
+  λ ran.
+      let at = get_or-enumerate_from 0 sides ran.0 (0, Seller) ran.1 in
+      absurd (ran.2 (subst (λ p. sold p.0 p.1 ≡ pos 0) (at ∙ ap (λ k. (k, get_or sides ran.0 Seller)) (zero-add ran.0)) (m ran.0 (0, Seller) (omega arith) (omega (arith, length-enumerate_from 0 sides))))),
+)

@@ -1,22 +1,18 @@
-use Rattle.std.proofs.Common.{◌<◌, sym, arith}
+use Rattle.std.proofs.Common.{Err, sym}
 use Rattle.std.proofs.lemmas.Result.{err_from_is_err_and}
 use Rattle.faults.proofs.Firsts.{below_none, below_step, below_found}
-use Rattle.dayfile.specs.Records.{item_rows, item_count}
 use Rattle.dayfile.proofs.scans.scan.Goals as goal
 
 pub loop-item-init : goal.loop-item-init
-loop-item-init c = below_none (item_rows c.args.file.now c.args.layout c.args.sides.now c.args.section)
+loop-item-init g c = λ rows answers. below_none rows
 
-pub returns-in_err-check_item : goal.returns-in_err-check_item
-returns-in_err-check_item c =
+pub returns-in_err-check : goal.returns-in_err-check
+returns-in_err-check g c = λ rows answers.
     let p = err_from_is_err_and c.from_residual.result c.from_residual.ensures.1 in
-    let lt : c.loop-item.item < item_count c.args.layout c.args.sides.now c.args.section = omega (arith, c.item_count-item-end.ensures) in
-    rw
-    (p.1, p.2)
-    (sym
-    (below_found (item_rows c.args.file.now c.args.layout c.args.sides.now c.args.section) c.loop-item.item
-    (item_count c.args.layout c.args.sides.now c.args.section) c.in_err-check_item.field-0.0 lt c.loop-item.invariant (sym c.in_err-check_item.ensures)))
+    rw (p.1, p.2)
+    (sym (below_found rows c.loop-item.item c.args.items c.in_err-check.field-0.0 c.loop-item-test.true (c.loop-item.invariant rows answers)
+    (sym (answers c.loop-item.item (Err c.in_err-check.field-0.0) c.loop-item-test.true c.in_err-check.ensures))))
 
 pub loop-item-preserved : goal.loop-item-preserved
-loop-item-preserved c =
-    below_step (item_rows c.args.file.now c.args.layout c.args.sides.now c.args.section) c.loop-item.item c.loop-item.invariant (sym c.in_ok-check_item.ensures)
+loop-item-preserved g c = λ rows answers.
+    below_step rows c.loop-item.item (c.loop-item.invariant rows answers) (sym (answers c.loop-item.item _ c.loop-item-test.true c.in_ok-check.ensures))

@@ -1,20 +1,16 @@
-use Rattle.std.proofs.Common.{◌≡◌, ap, arith, w64, SFits, rules}
-use Rattle.std.proofs.lemmas.Int.{wrapping_add_onto}
-use Rattle.totals.proofs.Adding.{up_none, up_more, both_sums}
+use Rattle.std.proofs.Common.{◌≡◌, ℕ, refl, rules}
+use Rattle.std.proofs.iter.Yields.{nat_range_steps}
+use Rattle.std.proofs.lemmas.Fn.{fold_over}
+use Rattle.std.proofs.lemmas.Iterator.{YieldsList-from_range}
+use Rattle.std.proofs.lemmas.List.Sums.{fold-append}
+use Rattle.std.specs.List.{fold, range_with_len}
+use Rattle.totals.specs.Sums.{plus, energy_in}
+use Rattle.totals.proofs.Adding.{day_sums}
 use Rattle.totals.proofs.sums.energy_of.Goals as goal
-
-pub loop-past-init : goal.loop-past-init
-loop-past-init c = (up_none _, up_none _)
-
-pub loop-past-preserved : goal.loop-past-preserved
-loop-past-preserved c =
-    let a : SFits w64 c.energy_in-energy.result.day_ahead = search rules in
-    let m : SFits w64 c.energy_in-energy.result.metered = search rules in (
-      up_more _ _ _ _ _ c.loop-past.invariant.0 (ap (λ e. e.day_ahead) c.energy_in-energy.ensures) (wrapping_add_onto w64 _ _ c.loop-past.auto.day_ahead.fits a),
-      up_more _ _ _ _ _ c.loop-past.invariant.1 (ap (λ e. e.metered) c.energy_in-energy.ensures) (wrapping_add_onto w64 _ _ c.loop-past.auto.metered.fits m),
-    )
 
 pub returns : goal.returns
 returns c =
-    let end : c.loop-past.past ≡ 24 = omega arith in
-    both_sums _ _ _ _ _ end c.loop-past.invariant.0 c.loop-past.invariant.1
+    let energy = λ (hour : ℕ). energy_in c.args.file.now c.args.party c.args.side hour in
+    day_sums energy c.default.result c.fold.result c.default.ensures.0 c.default.ensures.1
+    (fold_over nat_range_steps (λ x. x) _ (λ hours sum. sum ≡ fold (λ sum hour. plus sum (energy hour)) c.default.result hours) _ (λ ys a x b f' j k. rw fold-append (search rules)) _
+    (range_with_len 1 24) _ c.fold.result (YieldsList-from_range 1 25 24 refl refl).runs refl c.fold.ensures.ran)

@@ -1,8 +1,14 @@
-use Rattle.std.proofs.Common.{sym, ◌∙◌, w64, SFits, rules, below_more}
-use Rattle.totals.proofs.Adding.{zero_bits}
+use Rattle.std.proofs.Common.{◌≡◌, ◌≢◌, pos, rules}
+use borrow.Author.Tests.{tests}
+use Rattle.std.proofs.lemmas.Iterator.{cases_from_any, YieldsList-from_slice}
+use Rattle.std.proofs.lemmas.Iterator.Consumers.{YieldsList-from_enumerate}
+use Rattle.totals.specs.Sums.{sold}
+use Rattle.totals.proofs.Adding.{from_any}
 use Rattle.totals.proofs.sums.seller_ran.Goals as goal
 
-pub loop-party-preserved : goal.loop-party-preserved
-loop-party-preserved c =
-    let fits : SFits w64 c.sold_by.result = search rules in
-    below_more _ _ c.loop-party.invariant (sym c.sold_by.ensures ∙ zero_bits c.sold_by.result fits c.if-sold_by-ne0.false)
+pub returns : goal.returns
+returns c =
+    from_any (λ party side. sold c.args.file.now party side c.args.hour) c.args.sides.now c.any.result
+    (cases_from_any _ _ c.any.result (λ p. sold c.args.file.now p.0 p.1 c.args.hour ≢ pos 0)
+    (λ p. sold c.args.file.now p.0 p.1 c.args.hour ≡ pos 0) c.any.ensures.ran
+    (YieldsList-from_enumerate (YieldsList-from_slice c.args.sides.now cc) cc) (λ x q k. search (rules, tests)) (λ x q k. search (rules, tests)))
