@@ -45,7 +45,7 @@ pub counts_given : (given : List ℕ) (p : ℕ) → p < length given → (slice_
 counts_given given p l ne =
     map-id given ∙ sym (as_given_some given (λ e. ne (omega (arith, get_or-le-sum_by (λ (x : ℕ). x) given p 0 l))))
 
-ones : (given : List ℕ) → map (counts_as OneEach) given ≡ replicate (length given) 1
+pub ones : (given : List ℕ) → map (counts_as OneEach) given ≡ replicate (length given) 1
 ones [] = refl
 ones (w ∷ given) = ap (λ xs. 1 ∷ xs) (ones given)
 
