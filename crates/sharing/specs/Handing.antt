@@ -5,9 +5,10 @@ use Rattle.std.proofs.Common.{◌∙◌, subst, inl, inr, ⊎_elim, one-add, add
 use native.Mathlib.Omega.{arith}
 use Rattle.std.proofs.Math.Nat.{add-mul, le_of_mul-le-mul_right}
 use Rattle.std.specs.List.{prefix_len}
-use Rattle.std.proofs.lemmas.Bool.{cases_eq, cases_lt, lt-ltb, le-ltb, ltb-true, cond-true, cond-false}
+use Rattle.std.proofs.lemmas.Bool.{cases_eq, cases_lt, lt-ltb, le-ltb, ltb-true, ltb-false, cond-true, cond-false}
 use Rattle.std.proofs.lemmas.List.{length-set, length-map, get_or-map, get_or-set_same, get_or-set_other}
-use Rattle.std.proofs.lemmas.List.Sums.{sum_by-cons, sum_by-set, sum_by_more, sum_by-take-le, get_or-le-sum_by, prefix_len_passes}
+use Rattle.std.proofs.lemmas.List.Sums.{sum_by-cons, sum_by-set, sum_by_more, sum_by-take-le, prefix_len_passes, prefix_len_stops}
+use Rattle.std.proofs.lemmas.List.Recursion.{max_least}
 use Rattle.sharing.specs.LargestRemainders.{floors, remainders, largest, first_largest, hand_out, largest_remainder_shares, Ahead, ServedFirst}
 
 -- how many numbers are above 0
@@ -36,22 +37,6 @@ largest_positive (r ∷ rs) h =
     (λ le. let p = largest_positive rs (omega (arith, positives_none r rs (omega arith))) in omega arith)
     (cases_lt 0 r)
 
--- the first number that is not below m, where the largest is not
-pub reached : (m : ℕ) (rs : List ℕ) → 0 < m → m ≤ largest rs →
-    (prefix_len (λ x. ltb x m) rs < length rs) × (m ≤ slice_index rs (prefix_len (λ x. ltb x m) rs))
-unfolding largest
-reached m [] z h = absurd (omega arith)
-reached m (r ∷ rs) z h =
-    ⊎_elim
-    (λ lt.
-    let e = cond-true (nat_lt r m) (1 + prefix_len (λ x. ltb x m) rs) 0 (lt-ltb r m lt) in
-    let ih = reached m rs z (omega arith) in
-    rw (e, one-add) (omega (arith, ih.0), ih.1))
-    (λ le.
-    let e = cond-false (nat_lt r m) (1 + prefix_len (λ x. ltb x m) rs) 0 (le-ltb r m le) in
-    rw e (omega arith, le))
-    (cases_lt r m)
-
 -- no number is above the largest, and the largest is not above what no number is above
 pub get_or_le_largest : (rs : List ℕ) (k : ℕ) → slice_index rs k ≤ largest rs
 unfolding largest
@@ -61,11 +46,16 @@ get_or_le_largest (r ∷ rs) (suc k) = omega (arith, get_or_le_largest rs k)
 
 pub largest_least : (m : ℕ) (rs : List ℕ) → ((k : ℕ) → k < length rs → slice_index rs k ≤ m) → largest rs ≤ m
 unfolding largest
-largest_least m [] h = omega arith
-largest_least m (r ∷ rs) h =
-    let first : r ≤ m = h 0 (omega arith) in
-    let rest : largest rs ≤ m = largest_least m rs (λ k l. h (suc k) (omega arith)) in
-    omega arith
+largest_least m rs h = max_least largest (λ x. x) refl (λ _ _. refl) rs 0 m h
+
+-- the first number that is not below m, where the largest is not
+pub reached : (m : ℕ) (rs : List ℕ) → 0 < m → m ≤ largest rs →
+    (prefix_len (λ x. ltb x m) rs < length rs) × (m ≤ slice_index rs (prefix_len (λ x. ltb x m) rs))
+reached m rs z h =
+    ⊎_elim
+    (λ l. (l, ltb-false _ _ (prefix_len_stops (λ x. ltb x m) rs 0 l)))
+    (λ all. absurd (omega (arith, largest_least (m - 1) rs (λ k l. omega (arith, ltb-true _ _ (prefix_len_passes (λ x. ltb x m) rs k 0 (omega arith)))))))
+    (cases_lt (prefix_len (λ x. ltb x m) rs) (length rs))
 
 -- where a number is above 0, the first largest stands in the list and is above 0
 pub first_largest_positive : (rs : List ℕ) → 0 < positives rs → (first_largest rs < length rs) × (0 < slice_index rs (first_largest rs))
@@ -252,9 +242,6 @@ module _ (ws : List ℕ) (fund p w t : ℕ) (l : p < length ws) (ew : w ≡ slic
   pub remainder_code : fund * w % t ≡ slice_index (remainders ws fund) p
   unfolding remainders
   remainder_code = rw (ew, et) (sym (get_or-map (λ v. fund * v % sum ws) ws p 0 0 l))
-
-  pub part_fits : fund * w ≤ fund * sum ws
-  part_fits = rw ew (mul-le-mul_left fund (get_or-le-sum_by (λ (x : ℕ). x) ws p 0 l))
 
   pub floor_more : sum (take (p + 1) (floors ws fund)) ≡ sum (take p (floors ws fund)) + fund * w / t
   floor_more =

@@ -77,6 +77,7 @@ pub fn divide<R: SharingRule>(
     let given = Given::new(given)?;
     let size = fund.unsigned_abs();
     check_fund(rule, &given, size)?;
+    // as many places as there may be parties, since there is no heap here
     let mut sizes = [0; MAX_PARTIES];
     rule.share_all(&given, size, &mut sizes[..given.weights.len()]);
     Ok(sizes.map(|size| signed_share(fund, size)))

@@ -44,6 +44,7 @@ fn round_down(counted: &Counted, fund: u64, out: &mut [u64]) -> u64
 }
 
 // Writes what rounding down takes from each party's part.
+// A loop of its own: of one over a `zip` of two `iter_mut` the proof has no name for what is written.
 fn write_remainders(counted: &Counted, fund: u64, rest: &mut [u64])
     requires fund { Shareable fund counted.now }
     requires room { length rest.old ≡ length counted.now }
@@ -56,6 +57,7 @@ fn write_remainders(counted: &Counted, fund: u64, rest: &mut [u64])
 }
 
 // Hands out what is left: one fen at a time to the largest remainder that has none yet.
+// Remainders and shares stay two lists, since a caller has room for the shares alone.
 fn hand_out(left: u64, rest: &mut [u64], out: &mut [u64])
     requires some { 0 < length rest.old }
     requires room { length out.old ≡ length rest.old }
@@ -97,6 +99,7 @@ impl SharingRule for LargestRemainder {
     }
 
     fn share(&self, given: &Given, fund: u64, party: usize) -> u64 {
+        // as many places as there may be parties, since there is no heap here
         let mut shares = [0; MAX_PARTIES];
         let shares = &mut shares[..given.weights.len()];
         self.share_all(given, fund, shares);
@@ -112,6 +115,7 @@ impl SharingRule for LargestRemainder {
     {
         let counted = Counted::of(given);
         let left = round_down(&counted, fund, out);
+        // as many places as there may be parties, since there is no heap here
         let mut rest = [0; MAX_PARTIES];
         let rest = &mut rest[..given.weights.len()];
         write_remainders(&counted, fund, rest);

@@ -5,6 +5,7 @@ ghost use Rattle.sharing.specs.Parts.{LessThanFenAbove, LessThanFenBelow};
 use crate::weights::Given;
 
 /// How a fund is shared among parties, by a given weight for each.
+// That the fund fits stays a `requires`: it speaks of the rule, so a type for it would name the rule in every implementer's signature.
 pub trait SharingRule {
     // the weights that count, of all the given weights
     ghost counted: { Self → List ℕ → List ℕ };
@@ -29,6 +30,7 @@ pub trait SharingRule {
         requires room { length out.old ≡ length given.now }
         ensures { out.new ≡ shares self.now given.now fund }
     {
+        // a look at the weights, so that the proof of this body knows their limits
         let _ = &given.weights;
         for (party, share) in out.iter_mut().enumerate() {
             *share = self.share(given, fund, party);

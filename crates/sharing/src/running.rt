@@ -30,6 +30,7 @@ impl SharingRule for Running {
 
     ghost lower = { λ s given fund p w f l. (running_near (as_given given) fund p (as_given_sum given w.some) (omega (arith, as_given_length given))).1 };
 
+    // as of LargestRemainder: a member and a method cannot be written once for two types, so both are one call
     fn counted(&self, given: &Given, party: usize) -> u64 {
         Counted::of(given).weight(party)
     }

@@ -11,7 +11,6 @@ use Rattle.sharing.specs.Divisions.{unshareable, signed_as, signed_shares, AddUp
 use Rattle.sharing.specs.Limits.{Shareable, Weights, most_parties, most_product}
 use Rattle.sharing.proofs.Dividing.{size_within, adds_up, near_parts, refused_weights, signed_all, padded_sum}
 use Rattle.sharing.proofs.Mapping.{mapped}
-use Rattle.sharing.proofs.division.divide.Given as given
 use Rattle.sharing.proofs.division.divide.Goals as goal
 
 pub returns-in_err-given-clause-refusal : goal.returns-in_err-given-clause-refusal
@@ -19,30 +18,21 @@ returns-in_err-given-clause-refusal g c =
     let p = err_from_is_err_and c.from_residual.result c.from_residual.ensures.1 in
     rw (p.1, p.2) (refused_weights c.args.given.now (g.R.SharingRule.counted c.args.rule.now c.args.given.now) (nat_abs c.args.fund) c.in_err-given.field-0.0 c.in_err-given.ensures.refusal)
 
--- the sizes of the shares add up to the fund's, which is within the limit
-shared : (g : given.Over) (c : goal.After-fund-1 g) →
-    (sum (g.R.SharingRule.shares c.args.rule.now c.in_ok-given.given c.unsigned_abs-size.result) ≡ c.unsigned_abs-size.result) × (c.unsigned_abs-size.result ≤ most_product)
-shared g c =
-    let gs : List ℕ = c.in_ok-given.given in
-    let fit : Weights gs = subst Weights c.given.view_is c.given.invariant in
-    let law = g.met.R.SharingRule in (
-      law.adds c.args.rule.now gs c.unsigned_abs-size.result fit c.in_ok-check_fund.ensures.fund,
-      size_within c.unsigned_abs-size.result (g.R.SharingRule.counted c.args.rule.now gs) (law.weighs c.args.rule.now gs fit) c.in_ok-check_fund.ensures.fund,
-    )
-
 pub map-requires : goal.map-requires
 map-requires g c =
+    let gs : List ℕ = c.in_ok-given.given in
+    let size : ℕ = c.unsigned_abs-size.result in
+    let fit : Weights gs = subst Weights c.given.view_is c.given.invariant in
+    let law = g.met.R.SharingRule in
+    let adds = law.adds c.args.rule.now gs size fit c.in_ok-check_fund.ensures.fund in
+    let most = size_within size (g.R.SharingRule.counted c.args.rule.now gs) (law.weighs c.args.rule.now gs fit) c.in_ok-check_fund.ensures.fund in
     let all : List ℕ = c.share_all.new.out ++ drop (length c.given.inside.weights.now) (replicate 64 0) in
-    let small : (x k : ℕ) → k < length all → x ≡ get_or all k x → x ≤ most_product = λ x k l at. omega (arith, get_or-le-sum_by (λ (y : ℕ). y) all k x l, padded_sum c.share_all.new.out (length c.given.inside.weights.now), ap sum c.share_all.ensures, shared g c) in (
+    let small : (x k : ℕ) → k < length all → x ≡ get_or all k x → x ≤ most_product =
+        λ x k l at. omega (arith, get_or-le-sum_by (λ (y : ℕ). y) all k x l, padded_sum c.share_all.new.out (length c.given.inside.weights.now), ap sum c.share_all.ensures, adds, most) in (
       omega arith,
-      (
-        omega arith,
-        (
-          omega arith,
-          serves_from_places (YieldsList-from_shown list_steps (λ (x : ℕ). x) (λ (s : List ℕ). s) (λ s t e. ap length e) (λ s x t e. e) all) (λ x q k. search (rules, tests)) (λ x k l at. let bound = small x k l at in search (rules, tests)),
-        ),
-      ),
-    )
+      (omega arith,
+       (omega arith,
+        serves_from_places (YieldsList-from_shown list_steps (λ (x : ℕ). x) (λ (s : List ℕ). s) (λ s t e. ap length e) (λ s x t e. e) all) (λ x q k. search (rules, tests)) (λ x k l at. let bound = small x k l at in search (rules, tests)))))
 
 pub share_all-requires : goal.share_all-requires
 share_all-requires g c =
