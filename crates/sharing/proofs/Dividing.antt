@@ -5,7 +5,7 @@ use lib.Signed.{lt_z}
 use Rattle.std.proofs.lemmas.Nat.{le-div}
 use Rattle.std.proofs.lemmas.List.{drop-replicate, get_or_append_left, get_or-map, length-map, map-append, take_at}
 use Rattle.std.proofs.lemmas.Int.{ints}
-use Rattle.std.proofs.lemmas.List.Sums.{prefix_len_is, get_or-le-sum_by, sum_by-append}
+use Rattle.std.proofs.lemmas.List.Sums.{prefix_len_is, sum_by-append}
 use Rattle.std.proofs.lemmas.List.Folds.{sum_by-replicate}
 use Rattle.std.proofs.lemmas.Bool.{cond-true, cond-false, or_from, le-ltb, lt-ltb, le-leb, lt-leb, cases_lt}
 use Rattle.std.specs.Result.{result_ok, result_err}
@@ -146,12 +146,7 @@ module _ (fund : ℤ) (sizes : List ℕ) where
       subst (λ (y : ℤ). Near (get_or (signed_shares fund sizes) p (pos 0)) y) (sign_size fund)
       (subst (λ (x : ℤ). Near x (signed_as fund (nat_abs fund))) (sym (share_at p (omega arith))) near)
 
--- a party's exact part: no product overflows, and where the fund is shared and there is such a party, the part is answered
-pub part_within : (counted : List ℕ) (size party weight : ℕ) → party < length counted → weight ≡ get_or counted party 0 → size * sum counted ≤ most_product → size * weight ≤ most_product
-part_within counted size party weight l at h =
-    let le : weight ≤ sum counted = omega (arith, at, get_or-le-sum_by (λ (x : ℕ). x) counted party 0 l) in
-    omega (arith, mul-le-mul_left size le)
-
+-- a party's exact part, where the fund is shared and there is such a party
 pub part_there : (given counted : List ℕ) (size party s weight total : ℕ) → None ≡ unshareable given counted size → party < length given → s ≡ size → weight ≡ get_or counted party 0
     → total ≡ sum counted → Some (record { weight = weight; total = total; whole = s * weight / total; rest = s * weight % total }) ≡ part_of given counted size party
 part_there given counted size party s weight total none l es ew et =

@@ -1,14 +1,12 @@
 -- Lemmas on weights that count as given, and 1 each where all are 0.
-use Rattle.std.specs.Prelude.{◌≡◌, ℕ, zero, suc, ◌+◌, ◌-◌, ◌*◌, ◌/◌, ◌<◌, ◌≤◌, max, List, [], ◌∷◌, map, length, take, replicate, sum, ◌==◌, ◌≢◌, slice_index, refl}
-use Rattle.std.proofs.Common.{sym, ap, ◌∙◌, ⊎_elim, arith, div-mul-le_self, mul-le-mul_left}
+use Rattle.std.specs.Prelude.{◌≡◌, ℕ, ◌/◌, ◌<◌, ◌≤◌, max, List, [], ◌∷◌, map, length, replicate, sum, ◌==◌, ◌≢◌, slice_index, refl}
+use Rattle.std.proofs.Common.{ap, ◌∙◌, ⊎_elim, arith, div-mul-le_self}
 use Rattle.std.proofs.lemmas.Bool.{cases_eq, eq-eqb, ne_eqb, cond-true, cond-false}
-use Rattle.std.proofs.lemmas.List.{length-map, length-replicate, length-take, get_or-map, get_or-replicate, get_or-take, map-id, take_all}
+use Rattle.std.proofs.lemmas.List.{length-replicate, get_or-replicate}
 use Rattle.std.proofs.lemmas.List.Folds.{sum_by-replicate}
 use Rattle.std.proofs.lemmas.Nat.{le-div}
 use Rattle.sharing.specs.AsGiven.{as_given, counts_as}
-use Rattle.sharing.specs.Limits.{Weights, most_weight, most_product}
-use Rattle.sharing.specs.declared.weights.Counting.{Counting}
-use Rattle.sharing.specs.declared.weights.Counting.TheVariants.{AsGiven, OneEach}
+use Rattle.sharing.specs.declared.weights.Counting.TheVariants.{OneEach}
 
 pub as_given_none : (given : List ℕ) → sum given ≡ 0 → as_given given ≡ replicate (length given) 1
 unfolding as_given

@@ -1,7 +1,7 @@
 -- Lemmas on parts rounded down and the fen that are left over.
 use Rattle.std.specs.Prelude.{◌≡◌, ℕ, zero, suc, ◌+◌, ◌-◌, ◌*◌, ◌/◌, ◌%◌, ◌<◌, ◌≤◌, cond, ltb, ◌⊎◌, List, [], ◌∷◌, map, length, take, sum, count_by, ◌≢◌, nat_lt, slice_index, slice_index_or, slice_set, refl}
 use Rattle.std.proofs.Math.Path.{sym, ap}
-use Rattle.std.proofs.Common.{◌∙◌, subst, inl, inr, ⊎_elim, one-add, add-one, div-add-mod', mod-lt, mul-add, mul-zero, zero-mul, mul-le-mul_left}
+use Rattle.std.proofs.Common.{◌∙◌, subst, inl, inr, ⊎_elim, add-one, div-add-mod', mod-lt, mul-add, mul-zero, zero-mul}
 use native.Mathlib.Omega.{arith}
 use Rattle.std.proofs.Math.Nat.{add-mul, le_of_mul-le-mul_right}
 use Rattle.std.specs.List.{prefix_len}

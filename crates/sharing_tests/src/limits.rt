@@ -102,7 +102,10 @@ fn numbers_farthest_from_zero(rt: HostRuntime) {
             Some(Unshareable::Product)
         );
         assert_eq!(rt; refusal(&Running, &[0], fund), Some(Unshareable::Product));
-        assert_eq!(rt; refusal(&Equal, &HEAVIEST, fund), Some(Unshareable::Product));
+        assert_eq!(rt;
+            refusal(&Equal, &HEAVIEST, fund),
+            Some(Unshareable::Product)
+        );
     }
 }
 
@@ -141,7 +144,10 @@ fn weights_too_large(rt: HostRuntime) {
             refusal(&Running, &given, i64::MIN),
             Some(Unshareable::Weight(party))
         );
-        assert_eq!(rt; refusal(&Equal, &given, 1), Some(Unshareable::Weight(party)));
+        assert_eq!(rt;
+            refusal(&Equal, &given, 1),
+            Some(Unshareable::Weight(party))
+        );
     }
     let mut last = HEAVIEST;
     last[63] = 2_976_000_001;

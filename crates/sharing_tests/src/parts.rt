@@ -9,7 +9,10 @@ struct Case([u64; 3], i64, usize, Option<ExactPart>);
 
 fn check_case(rt: &impl Abort, case: Case) {
     let Case(given, fund, party, expected) = case;
-    assert_eq!(rt; exact_part(&LargestRemainder, &given, fund, party), expected);
+    assert_eq!(rt;
+        exact_part(&LargestRemainder, &given, fund, party),
+        expected
+    );
     assert_eq!(rt; exact_part(&Running, &given, fund, party), expected);
 }
 

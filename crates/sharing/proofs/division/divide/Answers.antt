@@ -1,5 +1,5 @@
 use Rattle.std.proofs.Common.{◌≡◌, ℕ, ◌≤◌, ◌<◌, ◌++◌, List, length, get_or, drop, map, replicate, ℤ, pos, nat_abs, sum, sym, ap, ◌∙◌, subst, rules, arith, w64}
-use Rattle.std.proofs.lemmas.List.{length-append, length-drop, length-replicate, length-take}
+use Rattle.std.proofs.lemmas.List.{length-append, length-drop, length-replicate}
 use Rattle.std.proofs.lemmas.Int.{to_z-of_z}
 use Rattle.std.proofs.lemmas.Iterator.Adapters.{serves_from_places}
 use Rattle.std.proofs.lemmas.Iterator.Consumers.{YieldsList-from_shown}
@@ -8,7 +8,7 @@ use Rattle.std.proofs.lemmas.Result.{err_from_is_err_and}
 use Rattle.std.specs.Array.{list_steps}
 use borrow.Author.Tests.{tests}
 use Rattle.sharing.specs.Divisions.{unshareable, signed_as, signed_shares, AddUp, NearParts}
-use Rattle.sharing.specs.Limits.{Shareable, Weights, most_parties, most_product}
+use Rattle.sharing.specs.Limits.{Shareable, Weights, most_product}
 use Rattle.sharing.proofs.Dividing.{size_within, adds_up, near_parts, refused_weights, signed_all, padded_sum}
 use Rattle.sharing.proofs.Mapping.{mapped}
 use Rattle.sharing.proofs.division.divide.Goals as goal
@@ -28,19 +28,16 @@ map-requires g c =
     let most = size_within size (g.R.SharingRule.counted c.args.rule.now gs) (law.weighs c.args.rule.now gs fit) c.in_ok-check_fund.ensures.fund in
     let all : List ℕ = c.share_all.new.out ++ drop (length c.given.inside.weights.now) (replicate 64 0) in
     let small : (x k : ℕ) → k < length all → x ≡ get_or all k x → x ≤ most_product =
-        λ x k l at. omega (arith, get_or-le-sum_by (λ (y : ℕ). y) all k x l, padded_sum c.share_all.new.out (length c.given.inside.weights.now), ap sum c.share_all.ensures, adds, most) in (
+    λ x k l at. omega (arith, get_or-le-sum_by (λ (y : ℕ). y) all k x l, padded_sum c.share_all.new.out (length c.given.inside.weights.now), ap sum c.share_all.ensures, adds, most) in (
       omega arith,
-      (omega arith,
-       (omega arith,
-        serves_from_places (YieldsList-from_shown list_steps (λ (x : ℕ). x) (λ (s : List ℕ). s) (λ s t e. ap length e) (λ s x t e. e) all) (λ x q k. search (rules, tests)) (λ x k l at. let bound = small x k l at in search (rules, tests)))))
-
-pub share_all-requires : goal.share_all-requires
-share_all-requires g c =
-    let fit = c.in_ok-check_fund.ensures in
-    record {
-      fund = fit.fund;
-      room = omega (arith, length-take {A = ℕ} (length c.given.inside.weights.now) (replicate most_parties 0), c.given.invariant.few, ap length c.given.view_is);
-    }
+      (
+        omega arith,
+        (
+          omega arith,
+          serves_from_places (YieldsList-from_shown list_steps (λ (x : ℕ). x) (λ (s : List ℕ). s) (λ s t e. ap length e) (λ s x t e. e) all) (λ x q k. search (rules, tests)) (λ x k l at. let bound = small x k l at in search (rules, tests)),
+        ),
+      ),
+    )
 
 pub returns : goal.returns
 returns g c =

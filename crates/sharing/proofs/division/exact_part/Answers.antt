@@ -1,11 +1,9 @@
-use Rattle.std.proofs.Common.{◌≡◌, ℕ, ◌<◌, List, length, nat_abs, sum, Some, Ok, Err, Result, sym, ap, ◌∙◌, subst, arith, w64}
+use Rattle.std.proofs.Common.{◌≡◌, ℕ, List, length, nat_abs, sum, Some, Ok, Err, Result, sym, ap, ◌∙◌, arith, w64}
 use Rattle.std.proofs.lemmas.Int.{to_z-of_z}
 use Rattle.std.proofs.lemmas.Result.{IfOk-at_ok}
 use Rattle.std.specs.Result.{result_ok, result_err}
 use Rattle.sharing.specs.Divisions.{unshareable, part_of}
-use Rattle.sharing.specs.Limits.{Shareable, Weights}
-use Rattle.sharing.proofs.Dividing.{part_within, part_there, no_part}
-use Rattle.sharing.proofs.division.exact_part.Given as given
+use Rattle.sharing.proofs.Dividing.{part_there, no_part}
 use Rattle.sharing.proofs.division.exact_part.Goals as goal
 
 passed : {A E : Type 0} (r : Result A E) (x : A) → Some x ≡ result_ok r → r ≡ Ok x
@@ -16,17 +14,6 @@ pub returns-in_err-given : goal.returns-in_err-given
 returns-in_err-given g c =
     c.from_residual.ensures
     ∙ no_part c.args.given.now (g.R.SharingRule.counted c.args.rule.now c.args.given.now) _ c.args.party c.new.result (sym c.in_err-given.was ∙ c.ok.ensures.value) c.new.ensures.refusal
-
-fit : (g : given.Over) (c : goal.After-counted-weight g) → Weights c.in_ok-given.given
-fit g c = subst Weights c.given.view_is c.given.invariant
-
-pub overflow_mul-part : goal.overflow_mul-part
-overflow_mul-part g c =
-    let counted : List ℕ = g.R.SharingRule.counted c.args.rule.now c.in_ok-given.given in
-    let fund = IfOk-at_ok (λ _. Shareable c.unsigned_abs-size.result counted) (passed c.check_fund.result c.in_ok-total.total c.in_ok-total.ensures.value) c.check_fund.ensures.fund in
-    let long = g.met.R.SharingRule.aligned c.args.rule.now c.in_ok-given.given (fit g c) in
-    let there : c.args.party < length counted = omega (arith, long, ap length c.given.view_is) in
-    omega (arith, part_within counted c.unsigned_abs-size.result c.args.party c.counted-weight.result there c.counted-weight.ensures fund)
 
 pub returns : goal.returns
 returns g c =
