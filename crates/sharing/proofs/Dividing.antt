@@ -1,12 +1,14 @@
 -- Lemmas on the division of a fund of either sign.
-use Rattle.std.proofs.Common.{◌≡◌, ℕ, suc, ◌+◌, ◌-◌, ◌*◌, ◌/◌, ◌%◌, ◌<◌, ◌≤◌, max, Bool, true, false, cond, ◌||◌, ltb, leb, List, [], ◌∷◌, ◌++◌, map, length, get_or, take, drop, set, replicate, ℤ, pos, negsuc, ◌+ℤ◌, ◌-ℤ◌, ◌*ℤ◌, neg_ℤ, nat_abs, is_some, Some, None, fold, sum, Option, sym, refl, ap, ◌∙◌, subst, ⊎_elim, mul-le-mul_right, mul-le-mul_left, div-mul-le_self, arith, below_more}
+use Rattle.std.proofs.Common.{◌≡◌, ℕ, zero, suc, ◌+◌, ◌-◌, ◌*◌, ◌/◌, ◌%◌, ◌<◌, ◌≤◌, Bool, true, false, cond, ◌||◌, ltb, leb, List, [], ◌∷◌, ◌++◌, map, length, get_or, drop, replicate, ℤ, pos, negsuc, ◌+ℤ◌, ◌-ℤ◌, ◌*ℤ◌, neg_ℤ, nat_abs, is_some, Some, None, fold, sum, Option, Result, Ok, Err, sym, refl, ap, ◌∙◌, subst, ⊎_elim, mul-le-mul_right, mul-le-mul_left, div-mul-le_self, arith}
 use lib.IntN.{neg_ℤ-+ℤ, pos-*ℤ-pos}
 use lib.Signed.{lt_z}
 use Rattle.std.proofs.lemmas.Nat.{le-div}
-use Rattle.std.proofs.lemmas.List.{append_assoc, get_or_append_left, get_or-map, length-map, length-take-le, map_more, set_at, take_all, take_at}
+use Rattle.std.proofs.lemmas.List.{drop-replicate, get_or_append_left, get_or-map, length-map, map-append, take_at}
 use Rattle.std.proofs.lemmas.Int.{ints}
-use Rattle.std.proofs.lemmas.List.Sums.{prefix_len-drop_yes, prefix_len-drop_no, sum_by_more, get_or-le-sum_by}
+use Rattle.std.proofs.lemmas.List.Sums.{prefix_len_is, sum_by-append}
+use Rattle.std.proofs.lemmas.List.Folds.{sum_by-replicate}
 use Rattle.std.proofs.lemmas.Bool.{cond-true, cond-false, or_from, le-ltb, lt-ltb, le-leb, lt-leb, cases_lt}
+use Rattle.std.specs.Result.{result_ok, result_err}
 use Rattle.money.proofs.Products.{neg_times}
 use Rattle.sharing.specs.Divisions.{light, unweighable, unshareable, signed_as, signed_shares, exact_part, part_of, AddUp, NearParts}
 use Rattle.sharing.specs.Limits.{Weights, most_parties, most_weight, most_product}
@@ -16,71 +18,33 @@ use Rattle.sharing.specs.declared.division.Unshareable.TheVariants.{PartyCount, 
 
 -- the first weight that is too large
 pub too_heavy : (given : List ℕ) (p : ℕ) → 1 ≤ length given → length given ≤ most_parties → p < length given → most_weight < get_or given p 0
-    → p + light (drop p given) ≡ light given → Some (Weight p) ≡ unweighable given None
-too_heavy given p some few l heavy e =
-    let none = prefix_len-drop_no (λ w. leb w most_weight) given p 0 l (lt-leb _ _ heavy) in
-    let at : light given ≡ p = omega arith in
+    → ((k : ℕ) → k < p → get_or given k 0 ≤ most_weight) → Some (Weight p) ≡ unweighable given None
+too_heavy given p some few l heavy below =
+    let at : light given ≡ p = prefix_len_is (λ w. leb w most_weight) given p 0 (omega arith) (λ k b. le-leb _ _ (below k b)) (λ _. lt-leb _ _ heavy) in
     sym
     (cond-false (ltb (length given) 1 || ltb most_parties (length given)) _ _ (or_from _ _ (le-ltb _ _ some) (le-ltb _ _ few))
     ∙ cond-true (ltb (light given) (length given)) _ _ (lt-ltb _ _ (omega arith))
     ∙ ap (λ k. Some (Weight k)) at)
 
--- one more weight that is not
-pub not_heavy : (given : List ℕ) (p : ℕ) → p < length given → get_or given p 0 ≤ most_weight → p + light (drop p given) ≡ light given
-    → ((k : ℕ) → k < p → get_or given k 0 ≤ most_weight) → (p + 1 + light (drop (p + 1) given) ≡ light given) × ((k : ℕ) → k < p + 1 → get_or given k 0 ≤ most_weight)
-not_heavy given p l here e below =
-    let step = prefix_len-drop_yes (λ w. leb w most_weight) given p 0 l (le-leb _ _ here) in
-    (omega arith, below_more (λ k. get_or given k 0 ≤ most_weight) p below here)
+-- of weights that are not refused the fund decides
+pub weighable : (given : List ℕ) (other : Option Unshareable) → Weights given → other ≡ unweighable given other
+weighable given other weights =
+    let all : light given ≡ length given = prefix_len_is (λ w. leb w most_weight) given (length given) 0 (omega arith) (λ k b. le-leb _ _ (weights.small k b)) (λ l. absurd (omega arith)) in
+    sym
+    (cond-false (ltb (length given) 1 || ltb most_parties (length given)) _ _ (or_from _ _ (le-ltb _ _ weights.some) (le-ltb _ _ weights.few))
+    ∙ cond-false (ltb (light given) (length given)) _ _ (le-ltb _ _ (omega arith)))
 
--- one more counted weight
-pub total_more : (given counted : List ℕ) (p total w : ℕ) → Weights given → length counted ≡ length given → p < length given → get_or counted p 0 ≤ max 1 (get_or given p 0)
-    → total ≡ sum (take p counted) → total ≤ most_weight * p → w ≡ get_or counted p 0 → (total + w ≡ sum (take (p + 1) counted)) × (total + w ≤ most_weight * (p + 1))
-total_more given counted p total w weights long l modest e small at =
-    let m = sum_by_more (λ (x : ℕ). x) counted p 0 (omega arith) in
-    let s = weights.small p l in
-    (omega arith, omega arith)
-
--- one more share
-pub sign_more : (fund : ℤ) (sizes : List ℕ) (shares : List ℤ) (p : ℕ) (x : ℤ) → p < length sizes → length sizes ≤ most_parties
-    → shares ≡ map (signed_as fund) (take p sizes) ++ replicate (most_parties - p) (pos 0) → x ≡ signed_as fund (get_or sizes p 0)
-    → set shares p x ≡ map (signed_as fund) (take (p + 1) sizes) ++ replicate (most_parties - (p + 1)) (pos 0)
-sign_more fund sizes shares p x l few e at =
-    let front : List ℤ = map (signed_as fund) (take p sizes) in
-    let rest : List ℤ = replicate (most_parties - (p + 1)) (pos 0) in
-    let one_less : most_parties - p ≡ suc (most_parties - (p + 1)) = omega arith in
-    let whole : shares ≡ front ++ pos 0 ∷ rest = e ∙ ap (λ n. front ++ replicate n (pos 0)) one_less in
-    let long : length front ≡ p = length-map (take p sizes) (signed_as fund) ∙ length-take-le p sizes (omega arith) in
-    ap (λ xs. set xs p x) whole ∙ set_at front (pos 0) rest x p long ∙ ap (λ y. front ++ y ∷ rest) at
-    ∙ sym (ap (λ xs. xs ++ rest) (map_more (signed_as fund) sizes p 0 l) ∙ append_assoc front (signed_as fund (get_or sizes p 0) ∷ []) rest)
-
--- and all of them
-pub signed_all : (fund passed : ℤ) (sizes : List ℕ) (shares : List ℤ) (p : ℕ) → passed ≡ fund → p ≡ length sizes
-    → shares ≡ map (signed_as passed) (take p sizes) ++ replicate (most_parties - p) (pos 0) → shares ≡ signed_shares fund sizes
-unfolding signed_shares
-signed_all fund passed sizes shares p same at e =
-    e ∙ ap (λ k. map (signed_as passed) (take k sizes) ++ replicate (most_parties - k) (pos 0)) at
-    ∙ ap (λ xs. map (signed_as passed) xs ++ replicate (most_parties - length sizes) (pos 0)) (take_all (length sizes) sizes (omega arith))
-    ∙ ap (λ z. map (signed_as z) sizes ++ replicate (most_parties - length sizes) (pos 0)) same
-
--- weights that are refused are so whatever the fund is, and of others the fund decides
+-- weights that are refused are so whatever the fund is
 first_refusal : (a b : Bool) (x y fault : Unshareable) (other : Option Unshareable) → Some fault ≡ cond a (Some x) (cond b (Some y) None) → Some fault ≡ cond a (Some x) (cond b (Some y) other)
 first_refusal true b x y fault other e = e
 first_refusal false true x y fault other e = e
 first_refusal false false x y fault other e = absurd (let z : ◌≡◌ {A = ℕ} 0 1 = cc in omega arith)
-
-last_refusal : (a b : Bool) (x y : Unshareable) (other : Option Unshareable) → None ≡ cond a (Some x) (cond b (Some y) None) → other ≡ cond a (Some x) (cond b (Some y) other)
-last_refusal true b x y other e = absurd (let z : ◌≡◌ {A = ℕ} 0 1 = cc in omega arith)
-last_refusal false true x y other e = absurd (let z : ◌≡◌ {A = ℕ} 0 1 = cc in omega arith)
-last_refusal false false x y other e = refl
 
 pub refused_weights : (given counted : List ℕ) (size : ℕ) (fault : Unshareable) → Some fault ≡ unweighable given None → Some fault ≡ unshareable given counted size
 unfolding unshareable
 refused_weights given counted size fault e =
     first_refusal (ltb (length given) 1 || ltb most_parties (length given)) (ltb (light given) (length given)) PartyCount (Weight (light given)) fault
     (cond (ltb most_product (size * sum counted)) (Some Product) None) e
-
-weighable : (given : List ℕ) (other : Option Unshareable) → None ≡ unweighable given None → other ≡ unweighable given other
-weighable given other e = last_refusal (ltb (length given) 1 || ltb most_parties (length given)) (ltb (light given) (length given)) PartyCount (Weight (light given)) other e
 
 -- the product test by a division
 module _ (given counted : List ℕ) (size total : ℕ) (et : total ≡ sum counted) where
@@ -90,18 +54,18 @@ module _ (given counted : List ℕ) (size total : ℕ) (et : total ≡ sum count
   pub fund_within : size ≤ most_product / total → size * sum counted ≤ most_product
   fund_within h = omega (arith, mul-le-mul_right total h, div-mul-le_self most_product total, product)
 
-  pub refused_product : 0 < total → None ≡ unweighable given None → most_product / total < size → Some Product ≡ unshareable given counted size
+  pub refused_product : 0 < total → Weights given → most_product / total < size → Some Product ≡ unshareable given counted size
   unfolding unshareable
-  refused_product some none h =
+  refused_product some weights h =
       let over : most_product < size * sum counted =
       ⊎_elim (λ lt. lt) (λ le. absurd (omega (arith, le-div size most_product total some (omega (arith, product))))) (cases_lt most_product (size * sum counted)) in
-      sym (cond-true (ltb most_product (size * sum counted)) (Some Product) None (lt-ltb _ _ over)) ∙ weighable given _ none
+      sym (cond-true (ltb most_product (size * sum counted)) (Some Product) None (lt-ltb _ _ over)) ∙ weighable given _ weights
 
-  pub accepted : None ≡ unweighable given None → size ≤ most_product / total → None ≡ unshareable given counted size
+  pub accepted : Weights given → size ≤ most_product / total → None ≡ unshareable given counted size
   unfolding unshareable
-  accepted none h =
+  accepted weights h =
       sym (cond-false (ltb most_product (size * sum counted)) (Some Product) None (le-ltb _ _ (fund_within h)))
-      ∙ weighable given _ none
+      ∙ weighable given _ weights
 
 -- a fund that is shared is itself within the limit of the product
 pub size_within : (size : ℕ) (counted : List ℕ) → 0 < sum counted → size * sum counted ≤ most_product → size ≤ most_product
@@ -125,6 +89,25 @@ sign_none fund = by (lt_z fund (pos 0))
     by : (n : Bool) → cond n (neg_ℤ (pos 0)) (pos 0) ≡ pos 0
     by true = refl
     by false = refl
+
+sign_zeros : (fund : ℤ) (n : ℕ) → map (signed_as fund) (replicate n 0) ≡ replicate n (pos 0)
+sign_zeros fund zero = refl
+sign_zeros fund (suc n) = ap (λ (z : ℤ). z ∷ map (signed_as fund) (replicate n 0)) (sign_none fund) ∙ ap (λ zs. pos 0 ∷ zs) (sign_zeros fund n)
+
+-- sizes of 64 parties, of which those past the last are 0, as signed shares
+pub signed_all : (fund : ℤ) (sizes : List ℕ) (n : ℕ) → length sizes ≡ n → map (signed_as fund) (sizes ++ drop n (replicate most_parties 0)) ≡ signed_shares fund sizes
+unfolding signed_shares
+signed_all fund sizes n long =
+    map-append (signed_as fund) sizes (drop n (replicate most_parties 0))
+    ∙ ap (λ (zeros : List ℕ). map (signed_as fund) sizes ++ map (signed_as fund) zeros) (drop-replicate n most_parties 0)
+    ∙ ap (λ (zeros : List ℤ). map (signed_as fund) sizes ++ zeros) (sign_zeros fund (most_parties - n))
+    ∙ ap (λ (k : ℕ). map (signed_as fund) sizes ++ replicate (most_parties - k) (pos 0)) (sym long)
+
+-- and the zeros add nothing
+pub padded_sum : (sizes : List ℕ) (n : ℕ) → sum (sizes ++ drop n (replicate most_parties 0)) ≡ sum sizes
+padded_sum sizes n =
+    let zeros = ap sum (drop-replicate n most_parties 0) ∙ sum_by-replicate (λ (x : ℕ). x) (most_parties - n) 0 in
+    omega (arith, sum_by-append (λ (x : ℕ). x) sizes (drop n (replicate most_parties 0)))
 
 -- a fund by its size
 sign_size : (fund : ℤ) → signed_as fund (nat_abs fund) ≡ fund
@@ -163,14 +146,17 @@ module _ (fund : ℤ) (sizes : List ℕ) where
       subst (λ (y : ℤ). Near (get_or (signed_shares fund sizes) p (pos 0)) y) (sign_size fund)
       (subst (λ (x : ℤ). Near x (signed_as fund (nat_abs fund))) (sym (share_at p (omega arith))) near)
 
--- a party's exact part: no product overflows, and where the fund is shared and there is such a party, the part is answered
-pub part_within : (counted : List ℕ) (size party weight : ℕ) → party < length counted → weight ≡ get_or counted party 0 → size * sum counted ≤ most_product → size * weight ≤ most_product
-part_within counted size party weight l at h =
-    let le : weight ≤ sum counted = omega (arith, at, get_or-le-sum_by (λ (x : ℕ). x) counted party 0 l) in
-    omega (arith, mul-le-mul_left size le)
-
+-- a party's exact part, where the fund is shared and there is such a party
 pub part_there : (given counted : List ℕ) (size party s weight total : ℕ) → None ≡ unshareable given counted size → party < length given → s ≡ size → weight ≡ get_or counted party 0
     → total ≡ sum counted → Some (record { weight = weight; total = total; whole = s * weight / total; rest = s * weight % total }) ≡ part_of given counted size party
 part_there given counted size party s weight total none l es ew et =
     let here : is_some (unshareable given counted size) || leb (length given) party ≡ false = or_from _ _ (ap is_some (sym none)) (lt-leb _ _ l) in
     rw (es, ew, et) (sym (cond-false (is_some (unshareable given counted size) || leb (length given) party) None (Some (exact_part counted size party)) here))
+
+-- no part by weights that are refused
+pub no_part : {A : Type 0} (given counted : List ℕ) (size party : ℕ) (r : Result A Unshareable) → None ≡ result_ok r → result_err r ≡ unweighable given None → None ≡ part_of given counted size party
+no_part given counted size party (Ok x) none e = absurd (let z : ◌≡◌ {A = ℕ} 0 1 = cc in omega arith)
+no_part given counted size party (Err fault) none e =
+    sym
+    (cond-true (is_some (unshareable given counted size) || leb (length given) party) None (Some (exact_part counted size party))
+    (ap (λ (o : Option Unshareable). is_some o || leb (length given) party) (sym (refused_weights given counted size fault e))))

@@ -1,13 +1,14 @@
 -- Lemmas on parts rounded down and the fen that are left over.
-use Rattle.std.specs.Prelude.{◌≡◌, ℕ, zero, suc, ◌+◌, ◌-◌, ◌*◌, ◌/◌, ◌%◌, ◌<◌, ◌≤◌, Bool, true, false, cond, ltb, ◌⊎◌, List, [], ◌∷◌, map, length, take, sum, count_by, ◌≢◌, nat_lt, slice_index, slice_index_or, slice_set, refl}
+use Rattle.std.specs.Prelude.{◌≡◌, ℕ, zero, suc, ◌+◌, ◌-◌, ◌*◌, ◌/◌, ◌%◌, ◌<◌, ◌≤◌, cond, ltb, ◌⊎◌, List, [], ◌∷◌, map, length, take, sum, count_by, ◌≢◌, nat_lt, slice_index, slice_index_or, slice_set, refl}
 use Rattle.std.proofs.Math.Path.{sym, ap}
-use Rattle.std.proofs.Common.{◌∙◌, subst, inl, inr, ⊎_elim, one-add, add-one, div-add-mod', mod-lt, mul-add, mul-zero, zero-mul, mul-le-mul_left}
+use Rattle.std.proofs.Common.{◌∙◌, subst, inl, inr, ⊎_elim, add-one, div-add-mod', mod-lt, mul-add, mul-zero, zero-mul}
 use native.Mathlib.Omega.{arith}
 use Rattle.std.proofs.Math.Nat.{add-mul, le_of_mul-le-mul_right}
-use Rattle.std.specs.List.{prefix_len, IsFirstMaxByKey}
-use Rattle.std.proofs.lemmas.Bool.{cases_eq, cases_Bool, cases_lt, lt-ltb, le-ltb, ltb-true, cond-true, cond-false}
+use Rattle.std.specs.List.{prefix_len}
+use Rattle.std.proofs.lemmas.Bool.{cases_eq, cases_lt, lt-ltb, le-ltb, ltb-true, ltb-false, cond-true, cond-false}
 use Rattle.std.proofs.lemmas.List.{length-set, length-map, get_or-map, get_or-set_same, get_or-set_other}
-use Rattle.std.proofs.lemmas.List.Sums.{sum_by-cons, sum_by-set, sum_by_more, sum_by-take-le, get_or-le-sum_by}
+use Rattle.std.proofs.lemmas.List.Sums.{sum_by-cons, sum_by-set, sum_by_more, sum_by-take-le, prefix_len_passes, prefix_len_stops}
+use Rattle.std.proofs.lemmas.List.Recursion.{max_least}
 use Rattle.sharing.specs.LargestRemainders.{floors, remainders, largest, first_largest, hand_out, largest_remainder_shares, Ahead, ServedFirst}
 
 -- how many numbers are above 0
@@ -36,53 +37,25 @@ largest_positive (r ∷ rs) h =
     (λ le. let p = largest_positive rs (omega (arith, positives_none r rs (omega arith))) in omega arith)
     (cases_lt 0 r)
 
--- the first number that is not below m, where the largest is not
-pub reached : (m : ℕ) (rs : List ℕ) → 0 < m → m ≤ largest rs →
-    (prefix_len (λ x. ltb x m) rs < length rs) × (m ≤ slice_index rs (prefix_len (λ x. ltb x m) rs))
-unfolding largest
-reached m [] z h = absurd (omega arith)
-reached m (r ∷ rs) z h =
-    ⊎_elim
-    (λ lt.
-    let e = cond-true (nat_lt r m) (1 + prefix_len (λ x. ltb x m) rs) 0 (lt-ltb r m lt) in
-    let ih = reached m rs z (omega arith) in
-    rw (e, one-add) (omega (arith, ih.0), ih.1))
-    (λ le.
-    let e = cond-false (nat_lt r m) (1 + prefix_len (λ x. ltb x m) rs) 0 (le-ltb r m le) in
-    rw e (omega arith, le))
-    (cases_lt r m)
-
 -- no number is above the largest, and the largest is not above what no number is above
-get_or_le_largest : (rs : List ℕ) (k : ℕ) → slice_index rs k ≤ largest rs
+pub get_or_le_largest : (rs : List ℕ) (k : ℕ) → slice_index rs k ≤ largest rs
 unfolding largest
 get_or_le_largest [] k = omega arith
 get_or_le_largest (r ∷ rs) zero = omega arith
 get_or_le_largest (r ∷ rs) (suc k) = omega (arith, get_or_le_largest rs k)
 
-largest_least : (m : ℕ) (rs : List ℕ) → ((k : ℕ) → k < length rs → slice_index rs k ≤ m) → largest rs ≤ m
+pub largest_least : (m : ℕ) (rs : List ℕ) → ((k : ℕ) → k < length rs → slice_index rs k ≤ m) → largest rs ≤ m
 unfolding largest
-largest_least m [] h = omega arith
-largest_least m (r ∷ rs) h =
-    let first : r ≤ m = h 0 (omega arith) in
-    let rest : largest rs ≤ m = largest_least m rs (λ k l. h (suc k) (omega arith)) in
-    omega arith
+largest_least m rs h = max_least largest (λ x. x) refl (λ _ _. refl) rs 0 m h
 
--- the first place that does not pass
-leading_is : (p : ℕ → Bool) (rs : List ℕ) (b : ℕ) → b < length rs → ((k : ℕ) → k < b → p (slice_index rs k) ≡ true) → p (slice_index rs b) ≡ false → prefix_len p rs ≡ b
-leading_is p [] b l before at = absurd (omega arith)
-leading_is p (r ∷ rs) zero l before at = cond-false (p r) (1 + prefix_len p rs) 0 at
-leading_is p (r ∷ rs) (suc b) l before at =
-    cond-true (p r) (1 + prefix_len p rs) 0 (before 0 (omega arith))
-    ∙ omega (arith, leading_is p rs b (omega arith) (λ k h. before (suc k) (omega arith)) at)
-
--- the best by a search is the first largest
-pub best_first : (rs : List ℕ) (b : ℕ) → IsFirstMaxByKey (λ (x : ℕ). x) rs (length rs) b → first_largest rs ≡ b
-unfolding first_largest
-best_first rs b best =
-    let most = largest_least (slice_index rs b) rs (λ k l. best.1 k 0 l) in
-    leading_is (λ x. ltb x (largest rs)) rs b best.0
-    (λ k l. lt-ltb _ _ (omega (arith, best.2 k 0 l, get_or_le_largest rs b)))
-    (le-ltb _ _ most)
+-- the first number that is not below m, where the largest is not
+pub reached : (m : ℕ) (rs : List ℕ) → 0 < m → m ≤ largest rs →
+    (prefix_len (λ x. ltb x m) rs < length rs) × (m ≤ slice_index rs (prefix_len (λ x. ltb x m) rs))
+reached m rs z h =
+    ⊎_elim
+    (λ l. (l, ltb-false _ _ (prefix_len_stops (λ x. ltb x m) rs 0 l)))
+    (λ all. absurd (omega (arith, largest_least (m - 1) rs (λ k l. omega (arith, ltb-true _ _ (prefix_len_passes (λ x. ltb x m) rs k 0 (omega arith)))))))
+    (cases_lt (prefix_len (λ x. ltb x m) rs) (length rs))
 
 -- where a number is above 0, the first largest stands in the list and is above 0
 pub first_largest_positive : (rs : List ℕ) → 0 < positives rs → (first_largest rs < length rs) × (0 < slice_index rs (first_largest rs))
@@ -92,17 +65,6 @@ first_largest_positive rs h =
     let r = reached (largest rs) rs z (omega arith) in
     (r.0, omega (arith, r.1))
 
--- what stands before the first that does not pass, passes
-leading_before : (p : ℕ → Bool) (rs : List ℕ) (k : ℕ) → k < prefix_len p rs → p (slice_index rs k) ≡ true
-leading_before p [] k l = absurd (omega arith)
-leading_before p (r ∷ rs) zero l =
-    ⊎_elim (λ t. t) (λ f. absurd (let z = cond-false (p r) (1 + prefix_len p rs) 0 f in omega arith)) (cases_Bool (p r))
-leading_before p (r ∷ rs) (suc k) l =
-    ⊎_elim
-    (λ t. leading_before p rs k (let z = cond-true (p r) (1 + prefix_len p rs) 0 t in omega arith))
-    (λ f. absurd (let z = cond-false (p r) (1 + prefix_len p rs) 0 f in omega arith))
-    (cases_Bool (p r))
-
 -- no number is above the first largest, and those before it are below it
 pub first_largest_best : (rs : List ℕ) → 0 < positives rs → (k : ℕ) →
     (slice_index rs k ≤ slice_index rs (first_largest rs)) × (k < first_largest rs → slice_index rs k < slice_index rs (first_largest rs))
@@ -111,7 +73,7 @@ first_largest_best rs h k =
     let z = largest_positive rs h in
     let r = reached (largest rs) rs z (omega arith) in (
       omega (arith, r.1, get_or_le_largest rs k),
-      λ l. omega (arith, r.1, ltb-true _ _ (leading_before (λ x. ltb x (largest rs)) rs k l)),
+      λ l. omega (arith, r.1, ltb-true _ _ (prefix_len_passes (λ x. ltb x (largest rs)) rs k 0 l)),
     )
 
 -- what handing out n fen does
@@ -280,9 +242,6 @@ module _ (ws : List ℕ) (fund p w t : ℕ) (l : p < length ws) (ew : w ≡ slic
   pub remainder_code : fund * w % t ≡ slice_index (remainders ws fund) p
   unfolding remainders
   remainder_code = rw (ew, et) (sym (get_or-map (λ v. fund * v % sum ws) ws p 0 0 l))
-
-  pub part_fits : fund * w ≤ fund * sum ws
-  part_fits = rw ew (mul-le-mul_left fund (get_or-le-sum_by (λ (x : ℕ). x) ws p 0 l))
 
   pub floor_more : sum (take (p + 1) (floors ws fund)) ≡ sum (take p (floors ws fund)) + fund * w / t
   floor_more =

@@ -3,8 +3,10 @@ ghost use Rattle.std.specs.Result.{result_err};
 ghost use Rattle.sharing.specs.Divisions.{unweighable, unshareable, signed_as, signed_shares, part_of, AddUp, NearParts};
 ghost use Rattle.sharing.specs.Limits.{Weights, Shareable, most_parties, most_product};
 
-use crate::limits::{MOST_PARTIES, MOST_PRODUCT, MOST_WEIGHT};
+use crate::limits::MOST_PRODUCT;
 use crate::rule::SharingRule;
+use crate::weights::Given;
+use market::MAX_PARTIES;
 
 /// Why a fund is not shared.
 #[derive(Clone, Copy, Debug, PartialEq, Eq)]
@@ -27,45 +29,23 @@ pub struct ExactPart {
     pub rest: u64,
 }
 
-// Refuses weights by which no rule shares: their number first, then the first that is too large.
-fn check_weights(given: &[u64]) -> Result<(), Unshareable>
-    ensures refusal { result_err result ≡ unweighable given.now None }
-    ensures fit { OnOk result (Weights given.now) }
-{
-    let parties = given.len();
-    if parties < 1 || parties > MOST_PARTIES {
-        return Err(Unshareable::PartyCount);
-    }
-    for (party, weight) in given.iter().enumerate() {
-        if *weight > MOST_WEIGHT {
-            return Err(Unshareable::Weight(party));
-        }
-    }
-    Ok(())
-}
-
 // The counted weights of all parties, added up.
-fn counted_total<R: SharingRule>(rule: &R, given: &[u64]) -> u64
-    requires weights { Weights given.now }
+fn counted_total<R: SharingRule>(rule: &R, given: &Given) -> u64
     ensures value { result ≡ sum (R.SharingRule.counted rule.now given.now) }
     ensures some { 0 < result }
+    ensures weights { Weights given.now }
 {
-    let mut total = 0;
-    for party in 0..given.len() {
-        total += rule.counted(given, party);
-    }
-    total
+    let parties = 0..given.weights.len();
+    parties.map(|party| rule.counted(given, party)).sum()
 }
 
-// Refuses weights by which no rule shares, and a fund that is too large for them. The total of the counted weights.
-fn check_fund<R: SharingRule>(rule: &R, given: &[u64], size: u64) -> Result<u64, Unshareable>
+// Refuses a fund that is too large for the weights that count. Their total.
+fn check_fund<R: SharingRule>(rule: &R, given: &Given, size: u64) -> Result<u64, Unshareable>
     ensures refusal { result_err result ≡ unshareable given.now (R.SharingRule.counted rule.now given.now) size }
     ensures total { IfOk result (λ total. total ≡ sum (R.SharingRule.counted rule.now given.now)) }
     ensures some { IfOk result (λ total. 0 < total) }
-    ensures weights { OnOk result (Weights given.now) }
     ensures fund { OnOk result (Shareable size (R.SharingRule.counted rule.now given.now)) }
 {
-    check_weights(given)?;
     let total = counted_total(rule, given);
     if size > MOST_PRODUCT / total {
         return Err(Unshareable::Product);
@@ -82,37 +62,25 @@ fn signed_share(fund: i64, size: u64) -> i64
     if fund < 0 { -share } else { share }
 }
 
-// The shares by their sizes, and 0 at each place past the last party.
-fn signed_shares(fund: i64, sizes: &[u64]) -> [i64; MOST_PARTIES]
-    requires few { length sizes.now ≤ most_parties }
-    requires small { sum sizes.now ≤ most_product }
-    ensures { result ≡ signed_shares fund sizes.now }
-{
-    let mut shares = [0i64; MOST_PARTIES];
-    for (party, size) in sizes.iter().enumerate() {
-        shares[party] = signed_share(fund, *size);
-    }
-    shares
-}
-
 /// Divides a fund among parties by a rule and a given weight for each. The shares of a negative fund are those of its size, negated; past the last party
 /// there stand zeros. The shares add up to the fund, and each is less than one fen away from the party's exact part.
 pub fn divide<R: SharingRule>(
     rule: &R,
     given: &[u64],
     fund: i64,
-) -> Result<[i64; MOST_PARTIES], Unshareable>
+) -> Result<[i64; MAX_PARTIES], Unshareable>
     ensures refusal { result_err result ≡ unshareable given.now (R.SharingRule.counted rule.now given.now) (unsigned_abs fund) }
     ensures shares { IfOk result (λ shares. shares ≡ signed_shares fund (R.SharingRule.shares rule.now given.now (unsigned_abs fund))) }
     ensures adds { IfOk result (AddUp (length given.now) fund) }
     ensures near { IfOk result (NearParts (R.SharingRule.counted rule.now given.now) fund) }
 {
+    let given = Given::new(given)?;
     let size = fund.unsigned_abs();
-    check_fund(rule, given, size)?;
-    let mut sizes = [0u64; MOST_PARTIES];
-    let sizes = &mut sizes[0..given.len()];
-    rule.share_all(given, size, sizes);
-    Ok(signed_shares(fund, sizes))
+    check_fund(rule, &given, size)?;
+    // as many places as there may be parties, since there is no heap here
+    let mut sizes = [0; MAX_PARTIES];
+    rule.share_all(&given, size, &mut sizes[..given.weights.len()]);
+    Ok(sizes.map(|size| signed_share(fund, size)))
 }
 
 /// A party's exact part of a fund's size, or none where the fund is not shared or there is no such party.
@@ -124,14 +92,13 @@ pub fn exact_part<R: SharingRule>(
 ) -> Option<ExactPart>
     ensures { result ≡ part_of given.now (R.SharingRule.counted rule.now given.now) (unsigned_abs fund) party }
 {
+    let given = Given::new(given).ok()?;
     let size = fund.unsigned_abs();
-    let Ok(total) = check_fund(rule, given, size) else {
-        return None;
-    };
-    if party >= given.len() {
+    let total = check_fund(rule, &given, size).ok()?;
+    if party >= given.weights.len() {
         return None;
     }
-    let weight = rule.counted(given, party);
+    let weight = rule.counted(&given, party);
     let part = size * weight;
     Some(ExactPart {
         weight,

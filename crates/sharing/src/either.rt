@@ -2,6 +2,7 @@ ghost use Rattle.market.specs.Choices.{chosen};
 ghost use Rattle.market.specs.declared.either.Either.TheVariants.{First, Second};
 
 use crate::rule::SharingRule;
+use crate::weights::Given;
 use market::Either;
 
 /// One of two sharing rules is a sharing rule.
@@ -45,21 +46,21 @@ impl<A: SharingRule, B: SharingRule> SharingRule for Either<A, B> {
       | Second b ↦ λ given fund party w f l. B.SharingRule.lower b given fund party w f l
     ] };
 
-    fn counted(&self, given: &[u64], party: usize) -> u64 {
+    fn counted(&self, given: &Given, party: usize) -> u64 {
         match self {
             Either::First(a) => a.counted(given, party),
             Either::Second(b) => b.counted(given, party),
         }
     }
 
-    fn share(&self, given: &[u64], fund: u64, party: usize) -> u64 {
+    fn share(&self, given: &Given, fund: u64, party: usize) -> u64 {
         match self {
             Either::First(a) => a.share(given, fund, party),
             Either::Second(b) => b.share(given, fund, party),
         }
     }
 
-    fn share_all(&self, given: &[u64], fund: u64, out: &mut [u64]) {
+    fn share_all(&self, given: &Given, fund: u64, out: &mut [u64]) {
         match self {
             Either::First(a) => a.share_all(given, fund, out),
             Either::Second(b) => b.share_all(given, fund, out),

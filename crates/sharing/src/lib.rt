@@ -15,3 +15,4 @@ pub use division::{ExactPart, Unshareable, divide, exact_part};
 pub use remainders::LargestRemainder;
 pub use rule::SharingRule;
 pub use running::Running;
+pub use weights::Given;

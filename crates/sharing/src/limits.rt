@@ -1,6 +1,3 @@
-/// How many parties can share a fund.
-pub(crate) const MOST_PARTIES: usize = 64;
-
 /// The largest weight of a party.
 pub(crate) const MOST_WEIGHT: u64 = 2_976_000_000;
 

@@ -1,14 +1,14 @@
 ghost use Rattle.std.specs.Prelude.{◌≡◌, ◌+◌, ◌-◌, ◌^◌, ◌<◌, length, sum};
 ghost use Rattle.std.proofs.Common.{◌∙◌, arith};
 ghost use Rattle.sharing.specs.AsGiven.{as_given};
-ghost use Rattle.sharing.specs.Limits.{Weights, Shareable};
+ghost use Rattle.sharing.specs.Limits.{Shareable};
 ghost use Rattle.sharing.specs.LargestRemainders.{floors, remainders, first_largest, hand_out, largest_remainder_shares, ServedFirst};
 ghost use Rattle.sharing.specs.Counting.{as_given_length, as_given_sum, as_given_modest};
 ghost use Rattle.sharing.specs.Handing.{largest_length, largest_adds, largest_near};
 
-use crate::limits::MOST_PARTIES;
 use crate::rule::SharingRule;
-use crate::weights::{Counting, counted_weight};
+use crate::weights::{Counted, Given};
+use market::MAX_PARTIES;
 
 // The first place where the largest number stands.
 fn first_largest(numbers: &[u64]) -> usize
@@ -16,38 +16,48 @@ fn first_largest(numbers: &[u64]) -> usize
     ensures within { result < length numbers.now }
     ensures value { result ≡ first_largest numbers.now }
 {
-    let mut best = 0;
-    for i in 1..numbers.len() {
-        if numbers[i] > numbers[best] {
-            best = i;
+    let mut largest = 0;
+    let mut first = 0;
+    for (place, number) in numbers.iter().enumerate() {
+        if *number > largest {
+            largest = *number;
+            first = place;
         }
     }
-    best
+    first
 }
 
-// Writes each party's part of the fund rounded down, and its remainder. What is left of the fund.
-fn round_down(given: &[u64], fund: u64, out: &mut [u64], rest: &mut [u64]) -> u64
-    requires weights { Weights given.now }
-    requires fund { Shareable fund (as_given given.now) }
-    requires room { length out.old ≡ length given.now }
-    requires space { length rest.old ≡ length given.now }
-    ensures floors { out.new ≡ floors (as_given given.now) fund }
-    ensures rest { rest.new ≡ remainders (as_given given.now) fund }
-    ensures left { result ≡ fund - sum (floors (as_given given.now) fund) }
+// Writes each party's part of the fund rounded down. What is left of the fund.
+fn round_down(counted: &Counted, fund: u64, out: &mut [u64]) -> u64
+    requires fund { Shareable fund counted.now }
+    requires room { length out.old ≡ length counted.now }
+    ensures floors { out.new ≡ floors counted.now fund }
+    ensures left { result ≡ fund - sum (floors counted.now fund) }
 {
-    let counting = Counting::of(given);
-    let total = counting.total(given);
+    let total = counted.total();
     let mut left = fund;
-    for (party, weight) in given.iter().enumerate() {
-        let part = fund * counting.weight(*weight);
-        out[party] = part / total;
-        rest[party] = part % total;
-        left -= part / total;
+    for (party, share) in out.iter_mut().enumerate() {
+        *share = fund * counted.weight(party) / total;
+        left -= *share;
     }
     left
 }
 
+// Writes what rounding down takes from each party's part.
+// A loop of its own: of one over a `zip` of two `iter_mut` the proof has no name for what is written.
+fn write_remainders(counted: &Counted, fund: u64, rest: &mut [u64])
+    requires fund { Shareable fund counted.now }
+    requires room { length rest.old ≡ length counted.now }
+    ensures { rest.new ≡ remainders counted.now fund }
+{
+    let total = counted.total();
+    for (party, rest) in rest.iter_mut().enumerate() {
+        *rest = fund * counted.weight(party) % total;
+    }
+}
+
 // Hands out what is left: one fen at a time to the largest remainder that has none yet.
+// Remainders and shares stay two lists, since a caller has room for the shares alone.
 fn hand_out(left: u64, rest: &mut [u64], out: &mut [u64])
     requires some { 0 < length rest.old }
     requires room { length out.old ≡ length rest.old }
@@ -59,20 +69,6 @@ fn hand_out(left: u64, rest: &mut [u64], out: &mut [u64])
         out[party] += 1;
         rest[party] = 0;
     }
-}
-
-// Writes every party's share: its part rounded down, and one fen more to the largest remainders while any is left.
-fn write_shares(given: &[u64], fund: u64, out: &mut [u64])
-    requires weights { Weights given.now }
-    requires fund { Shareable fund (as_given given.now) }
-    requires room { length out.old ≡ length given.now }
-    ensures shares { out.new ≡ largest_remainder_shares (as_given given.now) fund }
-    ensures served { ServedFirst (as_given given.now) fund out.new }
-{
-    let mut rest = [0u64; MOST_PARTIES];
-    let rest = &mut rest[0..given.len()];
-    let left = round_down(given, fund, out, rest);
-    hand_out(left, rest, out);
 }
 
 /// A party gets its part of the fund rounded down, and one fen more if its remainder is among the largest.
@@ -98,18 +94,31 @@ impl SharingRule for LargestRemainder {
 
     ghost lower = { λ s given fund p w f l. (largest_near (as_given given) fund p (as_given_sum given w.some) (omega (arith, as_given_length given))).1 };
 
-    fn counted(&self, given: &[u64], party: usize) -> u64 {
-        counted_weight(given, party)
+    fn counted(&self, given: &Given, party: usize) -> u64 {
+        Counted::of(given).weight(party)
     }
 
-    fn share(&self, given: &[u64], fund: u64, party: usize) -> u64 {
-        let mut shares = [0u64; MOST_PARTIES];
-        let shares = &mut shares[0..given.len()];
-        write_shares(given, fund, shares);
+    fn share(&self, given: &Given, fund: u64, party: usize) -> u64 {
+        // as many places as there may be parties, since there is no heap here
+        let mut shares = [0; MAX_PARTIES];
+        let shares = &mut shares[..given.weights.len()];
+        self.share_all(given, fund, shares);
         shares[party]
     }
 
-    fn share_all(&self, given: &[u64], fund: u64, out: &mut [u64]) {
-        write_shares(given, fund, out);
+    // Writes each part rounded down, and one fen more to the largest remainders while any is left.
+    fn share_all(&self, given: &Given, fund: u64, out: &mut [u64])
+        requires fund { Shareable fund (as_given given.now) }
+        requires room { length out.old ≡ length given.now }
+        ensures shares { out.new ≡ largest_remainder_shares (as_given given.now) fund }
+        ensures served { ServedFirst (as_given given.now) fund out.new }
+    {
+        let counted = Counted::of(given);
+        let left = round_down(&counted, fund, out);
+        // as many places as there may be parties, since there is no heap here
+        let mut rest = [0; MAX_PARTIES];
+        let rest = &mut rest[..given.weights.len()];
+        write_remainders(&counted, fund, rest);
+        hand_out(left, rest, out);
     }
 }

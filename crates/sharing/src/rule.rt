@@ -2,7 +2,10 @@ ghost use Rattle.std.specs.Prelude.{◌≡◌, ℕ, ◌<◌, ◌≤◌, max, Lis
 ghost use Rattle.sharing.specs.Limits.{Weights, Shareable};
 ghost use Rattle.sharing.specs.Parts.{LessThanFenAbove, LessThanFenBelow};
 
+use crate::weights::Given;
+
 /// How a fund is shared among parties, by a given weight for each.
+// That the fund fits stays a `requires`: it speaks of the rule, so a type for it would name the rule in every implementer's signature.
 pub trait SharingRule {
     // the weights that count, of all the given weights
     ghost counted: { Self → List ℕ → List ℕ };
@@ -11,27 +14,26 @@ pub trait SharingRule {
     ghost shares: { Self → List ℕ → ℕ → List ℕ };
 
     /// The weight that counts for a party.
-    fn counted(&self, given: &[u64], party: usize) -> u64
-        requires weights { Weights given.now }
-        requires party { party < length given.now }
+    fn counted(&self, given: &Given, party: usize) -> u64
+        requires { party < length given.now }
         ensures { result ≡ slice_index (counted self.now given.now) party };
 
     /// A party's share of the fund.
-    fn share(&self, given: &[u64], fund: u64, party: usize) -> u64
-        requires weights { Weights given.now }
+    fn share(&self, given: &Given, fund: u64, party: usize) -> u64
         requires fund { Shareable fund (counted self.now given.now) }
         requires party { party < length given.now }
         ensures { result ≡ slice_index (shares self.now given.now fund) party };
 
     /// Writes every party's share.
-    fn share_all(&self, given: &[u64], fund: u64, out: &mut [u64])
-        requires weights { Weights given.now }
+    fn share_all(&self, given: &Given, fund: u64, out: &mut [u64])
         requires fund { Shareable fund (counted self.now given.now) }
         requires room { length out.old ≡ length given.now }
         ensures { out.new ≡ shares self.now given.now fund }
     {
-        for party in 0..given.len() {
-            out[party] = self.share(given, fund, party);
+        // a look at the weights, so that the proof of this body knows their limits
+        let _ = &given.weights;
+        for (party, share) in out.iter_mut().enumerate() {
+            *share = self.share(given, fund, party);
         }
     }
 

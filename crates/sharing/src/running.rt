@@ -5,7 +5,7 @@ ghost use Rattle.std.proofs.Common.{◌∙◌, arith};
 ghost use Rattle.sharing.specs.Telescoping.{running_length, running_adds, running_near};
 
 use crate::rule::SharingRule;
-use crate::weights::{Counting, counted_weight};
+use crate::weights::{Counted, Given};
 
 /// A party gets what the parties up to and with it get together, their part of the fund rounded down, less what those before it get together.
 #[derive(Clone, Copy)]
@@ -30,27 +30,28 @@ impl SharingRule for Running {
 
     ghost lower = { λ s given fund p w f l. (running_near (as_given given) fund p (as_given_sum given w.some) (omega (arith, as_given_length given))).1 };
 
-    fn counted(&self, given: &[u64], party: usize) -> u64 {
-        counted_weight(given, party)
+    // as of LargestRemainder: a member and a method cannot be written once for two types, so both are one call
+    fn counted(&self, given: &Given, party: usize) -> u64 {
+        Counted::of(given).weight(party)
     }
 
-    fn share(&self, given: &[u64], fund: u64, party: usize) -> u64 {
-        let counting = Counting::of(given);
-        let total = counting.total(given);
-        let before = fund * counting.up_to(given, party) / total;
-        let with = fund * counting.up_to(given, party + 1) / total;
+    fn share(&self, given: &Given, fund: u64, party: usize) -> u64 {
+        let counted = Counted::of(given);
+        let total = counted.total();
+        let before = fund * counted.up_to(party) / total;
+        let with = fund * counted.up_to(party + 1) / total;
         with - before
     }
 
-    fn share_all(&self, given: &[u64], fund: u64, out: &mut [u64]) {
-        let counting = Counting::of(given);
-        let total = counting.total(given);
+    fn share_all(&self, given: &Given, fund: u64, out: &mut [u64]) {
+        let counted = Counted::of(given);
+        let total = counted.total();
         let mut running = 0;
         let mut handed_out = 0;
-        for (party, weight) in given.iter().enumerate() {
-            running += counting.weight(*weight);
+        for (party, share) in out.iter_mut().enumerate() {
+            running += counted.weight(party);
             let up_to = fund * running / total;
-            out[party] = up_to - handed_out;
+            *share = up_to - handed_out;
             handed_out = up_to;
         }
     }

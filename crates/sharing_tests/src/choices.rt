@@ -1,7 +1,7 @@
-use crate::answers::{Refused, padded, part, refusal, shares};
+use crate::answers::{padded, part, refusal, shares};
 use crate::equal::Equal;
 use market::Either;
-use sharing::{LargestRemainder, Running};
+use sharing::{LargestRemainder, Running, Unshareable, exact_part};
 
 /// One of three rules.
 type AnyRule = Either<Equal, Either<LargestRemainder, Running>>;
@@ -21,9 +21,9 @@ fn the_shares_of_the_chosen_rule(rt: HostRuntime) {
 
 #[test]
 fn the_weights_of_the_chosen_rule(rt: HostRuntime) {
-    assert_eq!(rt; part(&EQUAL, &[0, 2, 2], 5, 0), Some((1, 3, 1, 2)));
-    assert_eq!(rt; part(&REMAINDER, &[0, 2, 2], 5, 0), Some((0, 4, 0, 0)));
-    assert_eq!(rt; part(&RUNNING, &[0, 2, 2], 5, 1), Some((2, 4, 2, 2)));
+    assert_eq!(rt; exact_part(&EQUAL, &[0, 2, 2], 5, 0), part(1, 3, 1, 2));
+    assert_eq!(rt; exact_part(&REMAINDER, &[0, 2, 2], 5, 0), part(0, 4, 0, 0));
+    assert_eq!(rt; exact_part(&RUNNING, &[0, 2, 2], 5, 1), part(2, 4, 2, 2));
 }
 
 #[test]
@@ -32,11 +32,11 @@ fn the_limit_of_the_chosen_rule(rt: HostRuntime) {
     assert_eq!(rt; refusal(&EQUAL, &given, 3_000_000_001), None);
     assert_eq!(rt;
         refusal(&REMAINDER, &given, 3_000_000_001),
-        Some(Refused::Product)
+        Some(Unshareable::Product)
     );
     assert_eq!(rt;
         refusal(&RUNNING, &given, 3_000_000_001),
-        Some(Refused::Product)
+        Some(Unshareable::Product)
     );
 }
 

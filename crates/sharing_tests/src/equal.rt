@@ -2,7 +2,7 @@ ghost use Rattle.sharing_tests.specs.EqualShares.{one_each, equal_shares};
 ghost use Rattle.sharing_tests.specs.Equally.{ones_length, ones_sum, ones_at, equal_length, equal_adds, equal_near};
 ghost use Rattle.std.proofs.Common.{arith};
 
-use sharing::SharingRule;
+use sharing::{Given, SharingRule};
 
 /// Every party counts 1, whatever its weight: each gets the fund divided by their number, rounded down, and the first parties get a fen more while any is left.
 #[derive(Clone, Copy)]
@@ -27,12 +27,12 @@ impl SharingRule for Equal {
 
     ghost lower = { λ s given fund p w f l. (equal_near given fund p l).1 };
 
-    fn counted(&self, given: &[u64], party: usize) -> u64 {
+    fn counted(&self, given: &Given, party: usize) -> u64 {
         1
     }
 
-    fn share(&self, given: &[u64], fund: u64, party: usize) -> u64 {
-        let parties = given.len() as u64;
+    fn share(&self, given: &Given, fund: u64, party: usize) -> u64 {
+        let parties = given.weights.len() as u64;
         let least = fund / parties;
         if (party as u64) < fund % parties {
             least + 1

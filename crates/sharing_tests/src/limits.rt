@@ -1,6 +1,7 @@
-use crate::answers::{Refused, padded, refusal, shares};
+use crate::answers::{padded, refusal, shares};
 use crate::equal::Equal;
-use sharing::{LargestRemainder, Running, SharingRule};
+use sharing::{LargestRemainder, Running, SharingRule, Unshareable};
+use std::array;
 use std::process::Abort;
 
 /// As many parties as can share a fund, each with the largest weight: 190,464,000,000 together.
@@ -12,9 +13,7 @@ const LARGEST: i64 = 47_253_024;
 #[test]
 fn the_most_parties_by_largest_remainder(rt: HostRuntime) {
     let mut expected = [738_328; 64];
-    for party in 0..32 {
-        expected[party] = 738_329;
-    }
+    expected[..32].fill(738_329);
     assert_eq!(rt;
         shares(&LargestRemainder, &HEAVIEST, LARGEST),
         Some(expected)
@@ -24,12 +23,7 @@ fn the_most_parties_by_largest_remainder(rt: HostRuntime) {
 
 #[test]
 fn the_most_parties_by_running_weight(rt: HostRuntime) {
-    let mut expected = [738_328; 64];
-    for party in 0..64 {
-        if party % 2 == 1 {
-            expected[party] = 738_329;
-        }
-    }
+    let expected = array::from_fn(|party| if party % 2 == 1 { 738_329 } else { 738_328 });
     assert_eq!(rt; shares(&Running, &HEAVIEST, LARGEST), Some(expected));
     largest_fund(&rt, &Running, &HEAVIEST, LARGEST);
 }
@@ -53,11 +47,11 @@ fn the_most_parties_in_equal_parts(rt: HostRuntime) {
 fn largest_fund<R: SharingRule>(rt: &impl Abort, rule: &R, given: &[u64], fund: i64) {
     let above = fund.wrapping_add(1);
     assert_eq!(rt; refusal(rule, given, fund), None);
-    assert_eq!(rt; refusal(rule, given, above), Some(Refused::Product));
+    assert_eq!(rt; refusal(rule, given, above), Some(Unshareable::Product));
     assert_eq!(rt; refusal(rule, given, fund.wrapping_neg()), None);
     assert_eq!(rt;
         refusal(rule, given, above.wrapping_neg()),
-        Some(Refused::Product)
+        Some(Unshareable::Product)
     );
 }
 
@@ -73,8 +67,7 @@ const LARGEST_FUNDS: [([u64; 2], i64); 6] = [
 
 #[test]
 fn the_largest_funds(rt: HostRuntime) {
-    for case in LARGEST_FUNDS {
-        let (given, fund) = case;
+    for (given, fund) in LARGEST_FUNDS {
         largest_fund(&rt, &LargestRemainder, &given, fund);
         largest_fund(&rt, &Running, &given, fund);
         largest_fund(&rt, &Equal, &given, 4_500_000_000_000_000_000);
@@ -106,10 +99,13 @@ fn numbers_farthest_from_zero(rt: HostRuntime) {
     for fund in [i64::MIN, i64::MAX] {
         assert_eq!(rt;
             refusal(&LargestRemainder, &[1], fund),
-            Some(Refused::Product)
+            Some(Unshareable::Product)
         );
-        assert_eq!(rt; refusal(&Running, &[0], fund), Some(Refused::Product));
-        assert_eq!(rt; refusal(&Equal, &HEAVIEST, fund), Some(Refused::Product));
+        assert_eq!(rt; refusal(&Running, &[0], fund), Some(Unshareable::Product));
+        assert_eq!(rt;
+            refusal(&Equal, &HEAVIEST, fund),
+            Some(Unshareable::Product)
+        );
     }
 }
 
@@ -119,13 +115,13 @@ fn too_few_or_too_many_parties(rt: HostRuntime) {
     for fund in [0, 1, i64::MIN] {
         assert_eq!(rt;
             refusal(&LargestRemainder, &[], fund),
-            Some(Refused::PartyCount)
+            Some(Unshareable::PartyCount)
         );
         assert_eq!(rt;
             refusal(&Running, &[0; 65], fund),
-            Some(Refused::PartyCount)
+            Some(Unshareable::PartyCount)
         );
-        assert_eq!(rt; refusal(&Equal, &many, fund), Some(Refused::PartyCount));
+        assert_eq!(rt; refusal(&Equal, &many, fund), Some(Unshareable::PartyCount));
     }
 }
 
@@ -139,19 +135,21 @@ const HEAVY: [([u64; 4], usize); 4] = [
 
 #[test]
 fn weights_too_large(rt: HostRuntime) {
-    for case in HEAVY {
-        let (given, party) = case;
+    for (given, party) in HEAVY {
         assert_eq!(rt;
             refusal(&LargestRemainder, &given, 0),
-            Some(Refused::Weight(party))
+            Some(Unshareable::Weight(party))
         );
         assert_eq!(rt;
             refusal(&Running, &given, i64::MIN),
-            Some(Refused::Weight(party))
+            Some(Unshareable::Weight(party))
         );
-        assert_eq!(rt; refusal(&Equal, &given, 1), Some(Refused::Weight(party)));
+        assert_eq!(rt;
+            refusal(&Equal, &given, 1),
+            Some(Unshareable::Weight(party))
+        );
     }
     let mut last = HEAVIEST;
     last[63] = 2_976_000_001;
-    assert_eq!(rt; refusal(&Running, &last, 1), Some(Refused::Weight(63)));
+    assert_eq!(rt; refusal(&Running, &last, 1), Some(Unshareable::Weight(63)));
 }

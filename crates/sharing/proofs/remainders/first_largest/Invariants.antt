@@ -1,6 +1,11 @@
-use Rattle.std.proofs.Common.{ℕ}
-use Rattle.std.specs.List.{IsFirstMaxByKey}
+use Rattle.std.proofs.Common.{ℕ, ◌<◌, ◌≤◌, length, get_or}
 use Rattle.sharing.proofs.remainders.first_largest.Given as goal
 
-abbrev pub invariant-loop-i : goal.invariant-loop-i
-invariant-loop-i l = IsFirstMaxByKey (λ (x : ℕ). x) l.numbers l.i l.best
+-- no number so far is above the largest, and those before its first place are below it
+abbrev pub invariant-loop-place : goal.invariant-loop-place
+invariant-loop-place l = record {
+  within : l.first < length l.numbers;
+  none_above : (k : ℕ) → k < l.place → get_or l.numbers k 0 ≤ l.largest;
+  before_below : (k : ℕ) → k < l.first → get_or l.numbers k 0 < l.largest;
+  there : l.largest ≤ get_or l.numbers l.first 0;
+}

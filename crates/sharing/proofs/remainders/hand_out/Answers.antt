@@ -1,12 +1,7 @@
 use Rattle.std.proofs.Common.{ℕ, ◌+◌, ◌-◌, ◌<◌, List, length, get_or, sym, ◌∙◌, arith}
-use Rattle.std.proofs.lemmas.List.Sums.{sum_by-set, get_or-le-sum_by}
+use Rattle.std.proofs.lemmas.List.Sums.{sum_by-set}
 use Rattle.sharing.specs.Handing.{hand_out_none, hand_out_more}
 use Rattle.sharing.proofs.remainders.hand_out.Goals as goal
-
-pub overflow_add-out : goal.overflow_add-out
-overflow_add-out c =
-    let within : c.first_largest-party.result < length c.loop-served.out = omega arith in
-    omega (arith, get_or-le-sum_by (λ (x : ℕ). x) c.loop-served.out c.first_largest-party.result 0 within)
 
 pub loop-served-preserved : goal.loop-served-preserved
 loop-served-preserved c =

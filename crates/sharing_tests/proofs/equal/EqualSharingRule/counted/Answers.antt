@@ -3,4 +3,4 @@ use Rattle.sharing_tests.specs.Equally.{ones_at}
 use Rattle.sharing_tests.proofs.equal.EqualSharingRule.counted.Goals as goal
 
 pub returns : goal.returns
-returns c = sym (ones_at c.args.given.now c.args.party c.requires.party)
+returns c = sym (ones_at c.args.given.now c.args.party c.requires)
