@@ -3,3 +3,4 @@ pub mod Asking
 pub mod Balance
 pub mod Netting
 pub mod Settling
+pub mod Tabling

@@ -4,6 +4,7 @@
 
 mod contracts;
 mod funds;
+mod priced;
 mod settle;
 mod sums;
 

@@ -38,18 +38,27 @@ pub(crate) const SOLD: Contract = Contract {
 };
 
 /// The charges and funds of a day of two parties.
-fn settled<B: RuleBook>(
-    book: &B,
-    lines: &[Line],
-    contracts: &[Contract],
-) -> Option<(i64, i64, i64, i64, i64)> {
+#[derive(Clone, Copy, Debug, PartialEq, Eq)]
+struct Outcome {
+    charges: [i64; 2],
+    funds: Funds,
+}
+
+/// A day of two parties, settled.
+fn settled<B: RuleBook>(book: &B, lines: &[Line], contracts: &[Contract]) -> Option<Outcome> {
     let mut charges = [0i64; 2];
-    let Funds {
+    let funds = settle_day(book, &PAIR, lines, contracts, 0, &mut charges)?;
+    Some(Outcome { charges, funds })
+}
+
+/// What a day must come to: two charges and the three funds.
+fn comes_to(charges: [i64; 2], difference: i64, mismatch: i64, rounding: i64) -> Option<Outcome> {
+    let funds = Funds {
         difference,
         mismatch,
         rounding,
-    } = settle_day(book, &PAIR, lines, contracts, 0, &mut charges)?;
-    Some((charges[0], charges[1], difference, mismatch, rounding))
+    };
+    Some(Outcome { charges, funds })
 }
 
 #[test]
@@ -59,11 +68,11 @@ fn one_hour_with_energy(rt: HostRuntime) {
     lines[24] = USER;
     assert_eq!(rt;
         settled(&ThreePart, &lines, &[SOLD]),
-        Some((-40_500, 39_500, 0, -1_000, 0))
+        comes_to([-40_500, 39_500], 0, -1_000, 0)
     );
     assert_eq!(rt;
         settled(&TwoPart, &lines, &[SOLD]),
-        Some((-35_500, 43_500, 10_000, -2_000, 0))
+        comes_to([-35_500, 43_500], 10_000, -2_000, 0)
     );
 }
 
@@ -76,7 +85,7 @@ fn a_buyer_in_an_empty_hour(rt: HostRuntime) {
     // 900 at 300,000 and 250 at 400,000
     assert_eq!(rt;
         settled(&ThreePart, &lines, &[]),
-        Some((-38_000, 37_000, 0, -1_000, 0))
+        comes_to([-38_000, 37_000], 0, -1_000, 0)
     );
 }
 
@@ -92,7 +101,7 @@ fn contracts_at_the_prices_of_their_hours(rt: HostRuntime) {
     // 500 × 50,000 in hour 1, 500 × 150,000 in hour 24
     assert_eq!(rt;
         settled(&ThreePart, &lines, &[SOLD, last, SOLD]),
-        Some((-66_000 - 12_500, 12_500, 0, -66_000, 0))
+        comes_to([-66_000 - 12_500, 12_500], 0, -66_000, 0)
     );
 }
 
@@ -117,10 +126,12 @@ fn fen_that_rounding_makes(rt: HostRuntime) -> Result<(), Fail> {
         return Err(Fail::new("not settled"));
     };
     assert_eq!(rt; charges, [-1, 0, 0]);
-    assert_eq!(rt;
-        (funds.difference, funds.mismatch, funds.rounding),
-        (0, 0, -1)
-    );
+    let expected = Funds {
+        difference: 0,
+        mismatch: 0,
+        rounding: -1,
+    };
+    assert_eq!(rt; funds, expected);
     Ok(())
 }
 
@@ -136,5 +147,5 @@ fn hours_are_not_rounded_one_by_one(rt: HostRuntime) {
     sold.real_time_price = 4_999;
     lines[0] = sold;
     // 24 hours of 4,999 micro: 119,976 micro are 12 fen, not 0
-    assert_eq!(rt; settled(&TwoPart, &lines, &[]), Some((0, 12, 0, 11, 1)));
+    assert_eq!(rt; settled(&TwoPart, &lines, &[]), comes_to([0, 12], 0, 11, 1));
 }

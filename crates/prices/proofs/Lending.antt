@@ -2,7 +2,10 @@
 use Rattle.std.proofs.Common.{◌≡◌, ℕ, zero, suc, ◌+◌, ◌-◌, ◌<◌, ◌≤◌, Bool, true, false, ◌≢◌, List, length, get_or, set, Some, None, Option, sym, refl, ap, ◌∙◌, subst, inl, inr, ⊎_elim, arith}
 use Rattle.std.proofs.lemmas.List.{get_or-set_same, get_or-set_other}
 use Rattle.std.proofs.lemmas.Bool.{cases_Bool, cases_eq, cases_lt, cond-true, cond-false}
+use Rattle.std.specs.Array.{IsFromFnResultFrom}
+use Rattle.std.specs.Fn.{Called}
 use Rattle.std.specs.Option.{option_or}
+use denote.Param.Members.{Mut}
 use Rattle.prices.specs.Borrowing.{Empty, Borrows}
 use Rattle.prices.specs.Hours.{first_from, last_before, lender}
 use Rattle.prices.proofs.Searching.{first_found, last_found}
@@ -85,4 +88,17 @@ filled P table i x d l before here k h =
     (λ (ne : k ≡ i → ⊥).
     let n : k ≢ i = ne in
     subst (P k) (sym (get_or-set_other table i k x d n)) (before k (omega arith)))
+    (cases_eq k i)
+
+-- an array made by calls that leave the closure as it was: what holds of each answer holds of each element
+pub made : {F B : Type 0} (g : Mut F (ℕ × Unit {0}) B) (f : F) (ys : List B) (P : ℕ → B → Type 0) → ((i : ℕ) (y : B) (q : F) → Called g f (i, tt) y q → (q ≡ f) × P i y)
+    → (n i : ℕ) → IsFromFnResultFrom g f ys i n → (k : ℕ) → i ≤ k → k < i + n → (d : B) → P k (get_or ys k d)
+made g f ys P calls zero i each k l m d = absurd (omega arith)
+made g f ys P calls (suc n) i each k l m d =
+    let call = calls i each.1 each.0 each.3 in
+    ⊎_elim
+    (λ (e : k ≡ i). subst (λ j. P j (get_or ys j d)) (sym e) (subst (P i) (sym (each.2.1 d)) call.1))
+    (λ (ne : k ≡ i → ⊥).
+    let n' : k ≢ i = ne in
+    made g f ys P calls n (i + 1) (subst (λ h. IsFromFnResultFrom g h ys (i + 1) n) call.0 each.4) k (omega arith) (omega arith) d)
     (cases_eq k i)

@@ -1,3 +1,4 @@
 pub mod Lending
 pub mod Pricing
+pub mod Rows
 pub mod Searching

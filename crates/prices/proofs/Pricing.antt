@@ -79,6 +79,11 @@ sold_since m sides lines day h early p l r e energy some =
     let full : pos 0 <ℤ r = is_full r (ap (λ z. lt_z (pos 0) z) (sym (energy_kept r energy)) ∙ some) in
     sold_hour m sides lines day h early p l (subst (λ z. pos 0 <ℤ z) e full)
 
+pub empty_since : (z r : ℤ) → r ≡ z → Energy r → lt_z (pos 0) (kept r) ≡ false → z ≡ pos 0
+empty_since z r e energy none =
+    let at-most : lt_z (pos 0) r ≡ false = ap (λ v. lt_z (pos 0) v) (sym (energy_kept r energy)) ∙ none in
+    sym e ∙ (let zero : r ≡ pos 0 = grind (arith, ints) in zero)
+
 -- an hour that is not empty has a price of its own
 pub own : (m : Market) (sides : List Side) (lines : List Line) (h : ℕ) → sold m sides lines h ≡ true
     → quotient_of (worth_in m sides lines h) (energy_in m sides lines h) ≡ Some (price_in m sides lines h)

@@ -1,7 +1,21 @@
 -- The search for an hour that is not empty, step by step.
-use Rattle.std.proofs.Common.{◌≡◌, ℕ, zero, suc, ◌+◌, ◌-◌, ◌<◌, Bool, true, false, Some, None, ap, ◌∙◌, subst, ⊎_elim, add-one, arith}
+use Rattle.std.proofs.Common.{◌≡◌, ℕ, zero, suc, ◌+◌, ◌-◌, ◌<◌, Bool, true, false, List, [], ◌∷◌, Some, None, Option, sym, ap, ◌∙◌, subst, ⊎_elim, add-one, arith}
 use Rattle.std.proofs.lemmas.Bool.{cases_Bool, cond-true, cond-false}
+use Rattle.std.specs.Fn.{CalledAt}
+use Rattle.std.specs.Iterator.{YieldsThen}
+use Rattle.std.specs.Iterator.Adapters.{rev_steps, rev_source}
+use Rattle.std.specs.List.{FoldsTo}
+use Rattle.std.specs.Option.{IfSome}
+use Rattle.std.specs.Range.{range_steps_back}
+use Rattle.std.specs.declared.iter.Rev.{Rev}
+use Rattle.std.specs.declared.ops.Range.{Range}
+use denote.Param.Members.{Mut}
+use denote.Ref.{Bor}
 use Rattle.prices.specs.Hours.{first_from, last_before}
+
+-- hours from the last one down
+abbrev pub back : Rev (Range ℕ) → Option ℕ → Rev (Range ℕ) → Type 0
+back = rev_steps (range_steps_back (λ x y. y - x) (λ x y. y ≡ x + 1))
 
 module _ (full : ℕ → Bool) where
   pub first_none : (h n : ℕ) → n ≡ 0 → first_from full h n ≡ None
@@ -57,3 +71,20 @@ module _ (full : ℕ → Bool) where
       let r = last_found n j (e ∙ cond-false (full n) (Some n) (last_before full n) t) in
       (r.0, omega (arith, r.1)))
       (cases_Bool (full n))
+
+  -- what `find` answers over the hours from the last one down
+  pub last_by_find : {F : Type 0} {g : Mut F (Bor ℕ × Unit {0}) Bool} (f : F) → ((x : ℕ) (b : Bool) (q : F) → CalledAt g f x b q → (q ≡ f) × (b ≡ full x)) → (xs : List ℕ) (s u : Rev (Range ℕ)) (r : Option ℕ) (j : F)
+      → (rev_source s).start ≡ 0 → YieldsThen back s xs r u → FoldsTo (λ p x q. CalledAt g p x false q) f xs j → IfSome r (λ x. (h : F) × CalledAt g j x true h) → r ≡ last_before full (rev_source s).end
+  last_by_find f calls [] s u None j z y folds called =
+      let e : (rev_source s).end ≡ 0 = omega (arith, ap (λ (v : Rev (Range ℕ)). v.iter.end) y.1, ap (λ (v : Rev (Range ℕ)). v.iter.start) y.1, y.2.1.0) in
+      sym (last_none (rev_source s).end e)
+  last_by_find {F} {g} f calls [] s u (Some x) j z y folds called =
+      let e : (rev_source s).end ≡ x + 1 = omega (arith, ap (λ (v : Rev (Range ℕ)). v.iter.end) y.1, y.2.1.1, y.2.1.2) in
+      let call = calls x true called.0 (subst (λ p. CalledAt g p x true called.0) (sym folds) called.1) in
+      sym (last_here x (rev_source s).end e (sym call.1))
+  last_by_find {F} {g} f calls (x ∷ xs) s u r j z y folds called =
+      let step = y.1.1 in
+      let e : (rev_source s).end ≡ x + 1 = omega (arith, step.1.1, step.1.2) in
+      let call = calls x false folds.0 folds.1 in
+      let rest = last_by_find f calls xs y.1.0 u r j (step.0 ∙ z) (y.0, y.1.2, y.2) (subst (λ p. FoldsTo (λ p x q. CalledAt g p x false q) p xs j) call.0 folds.2) called in
+      rest ∙ ap (last_before full) (sym step.1.1) ∙ sym (last_on x (rev_source s).end e (sym call.1))

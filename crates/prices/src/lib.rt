@@ -3,6 +3,7 @@
 #![tactic(auto)]
 
 mod borrowing;
+mod days;
 mod hours;
 mod kinds;
 mod table;

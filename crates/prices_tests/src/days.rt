@@ -23,10 +23,14 @@ fn plain(kwh: i64, mil: i64) -> Line {
     }
 }
 
-/// A price and the hour that it comes from.
-fn told(lines: &[Line], market: Market, hour: usize) -> Option<(i64, Option<usize>)> {
-    let HourPrice { mil, from } = hour_price(&SIDES, lines, market, 77, hour)?;
-    Some((mil, from))
+/// The price of an hour of these lines.
+fn told(lines: &[Line], market: Market, hour: usize) -> Option<HourPrice> {
+    hour_price(&SIDES, lines, market, 77, hour)
+}
+
+/// A price, and the hour that it comes from.
+fn price(mil: i64, from: Option<usize>) -> Option<HourPrice> {
+    Some(HourPrice { mil, from })
 }
 
 #[test]
@@ -44,13 +48,10 @@ fn a_mean_rounded_once(rt: HostRuntime) {
     // hour 24 is empty, and there is none after it
     assert_eq!(rt;
         told(&lines, Market::DayAhead, 23),
-        Some((366_667, Some(22)))
+        price(366_667, Some(22))
     );
     // from hour 2 on the next is hour 23, not the nearer hour 1
-    assert_eq!(rt;
-        told(&lines, Market::DayAhead, 1),
-        Some((366_667, Some(22)))
-    );
+    assert_eq!(rt; told(&lines, Market::DayAhead, 1), price(366_667, Some(22)));
 }
 
 #[test]
@@ -58,10 +59,10 @@ fn later_before_earlier(rt: HostRuntime) {
     let mut lines = [QUIET; 72];
     lines[1] = plain(5, 300_000);
     lines[27] = plain(7, 310_000);
-    assert_eq!(rt; told(&lines, Market::RealTime, 0), Some((300_000, Some(1))));
-    assert_eq!(rt; told(&lines, Market::RealTime, 1), Some((300_000, Some(1))));
-    assert_eq!(rt; told(&lines, Market::RealTime, 2), Some((310_000, Some(3))));
-    assert_eq!(rt; told(&lines, Market::RealTime, 4), Some((310_000, Some(3))));
+    assert_eq!(rt; told(&lines, Market::RealTime, 0), price(300_000, Some(1)));
+    assert_eq!(rt; told(&lines, Market::RealTime, 1), price(300_000, Some(1)));
+    assert_eq!(rt; told(&lines, Market::RealTime, 2), price(310_000, Some(3)));
+    assert_eq!(rt; told(&lines, Market::RealTime, 4), price(310_000, Some(3)));
 }
 
 #[test]
@@ -73,7 +74,7 @@ fn buyers_form_no_price(rt: HostRuntime) {
         day_ahead_price: 0,
         real_time_price: 0,
     };
-    assert_eq!(rt; told(&lines, Market::DayAhead, 0), Some((77, None)));
+    assert_eq!(rt; told(&lines, Market::DayAhead, 0), price(77, None));
     assert_eq!(rt; price_pair(&SIDES, &lines, 77, 23), Some((77, 77)));
 }
 
@@ -92,10 +93,10 @@ fn each_market_for_itself(rt: HostRuntime) {
         day_ahead_price: 310_000,
         real_time_price: -5_000_000,
     };
-    assert_eq!(rt; told(&lines, Market::DayAhead, 6), Some((300_000, Some(5))));
+    assert_eq!(rt; told(&lines, Market::DayAhead, 6), price(300_000, Some(5)));
     assert_eq!(rt;
         told(&lines, Market::RealTime, 5),
-        Some((-5_000_000, Some(6)))
+        price(-5_000_000, Some(6))
     );
 }
 

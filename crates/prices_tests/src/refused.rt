@@ -12,7 +12,7 @@ fn no_such_hour(rt: HostRuntime) {
     let lines = [QUIET; 72];
     assert_eq!(rt; price_pair(&SIDES, &lines, 0, 24), None);
     assert_eq!(rt; price_pair(&SIDES, &lines, 0, usize::MAX), None);
-    assert!(rt; hour_price(&SIDES, &lines, Market::DayAhead, 0, 24).is_none());
+    assert_eq!(rt; hour_price(&SIDES, &lines, Market::DayAhead, 0, 24), None);
 }
 
 #[test]

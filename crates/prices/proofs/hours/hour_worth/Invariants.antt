@@ -1,9 +1,0 @@
-use Rattle.std.proofs.Common.{◌≡◌, ◌*◌, ◌≤◌, ◌*ℤ◌, nat_abs}
-use Rattle.money.specs.Sums.{summed}
-use Rattle.prices.specs.Hours.{forming, side_at, line_at, energy_of, node_price_of}
-use Rattle.prices.proofs.hours.hour_worth.Given as goal
-
-abbrev pub invariant-loop-party : goal.invariant-loop-party
-invariant-loop-party l =
-    (l.sum ≡ summed (λ party. forming (side_at l.sides party) (energy_of l.market (line_at l.lines party l.hour) *ℤ node_price_of l.market (line_at l.lines party l.hour))) l.party)
-    × (nat_abs l.sum ≤ 80000000000000 * l.party)
