@@ -1,6 +1,6 @@
 use crate::words::{WordFault, end_of_words, name_of, next_number, next_word};
 use crate::yuan::{Fen, Micro};
-use bills::{Beyond, HourAmounts, hour_amounts, three_part_bill, two_part_bill};
+use bills::{Beyond, HourAmounts, bill, hour_amounts};
 use books::{ThreePart, TwoPart};
 use market::{Contract, Either, Line, Side, UnifiedPrices};
 use money::to_fen;
@@ -50,21 +50,6 @@ fn side_of(word: &str) -> Result<Side, WordFault<'_>> {
     }
 }
 
-/// What the party pays or receives for the hour, by the province's own formula.
-fn bill_of(question: Question) -> Result<i64, Beyond> {
-    let Question {
-        book,
-        side,
-        contract,
-        line,
-        unified,
-    } = question;
-    match book {
-        Either::First(_) => three_part_bill(side, &[contract], line, unified),
-        Either::Second(_) => two_part_bill(side, &[contract], line, unified),
-    }
-}
-
 impl Question {
     /// Reads the words `BOOK SIDE QC PC QD QM PD PR UD UR`.
     pub(crate) fn parse<'a>(mut words: SplitWhitespace<'a>) -> Result<Question, WordFault<'a>> {
@@ -107,7 +92,7 @@ impl Question {
             unified,
         } = self;
         let hour = hour_amounts(&book, side, &[contract], line, unified)?;
-        let owed = bill_of(self)?;
+        let owed = bill(&book, side, &[contract], line, unified)?;
         Ok(Amounts { side, hour, owed })
     }
 }
