@@ -1,13 +1,13 @@
 -- Lemmas on parts rounded down and the fen that are left over.
-use Rattle.std.specs.Prelude.{◌≡◌, ℕ, zero, suc, ◌+◌, ◌-◌, ◌*◌, ◌/◌, ◌%◌, ◌<◌, ◌≤◌, cond, ltb, ◌⊎◌, List, [], ◌∷◌, map, length, take, sum, count_by, ◌≢◌, nat_lt, slice_index, slice_index_or, slice_set, refl}
+use Rattle.std.specs.Prelude.{◌≡◌, ℕ, zero, suc, ◌+◌, ◌-◌, ◌*◌, ◌/◌, ◌%◌, ◌<◌, ◌≤◌, Bool, true, false, cond, ltb, ◌⊎◌, List, [], ◌∷◌, map, length, take, sum, count_by, ◌≢◌, nat_lt, slice_index, slice_index_or, slice_set, refl}
 use Rattle.std.proofs.Math.Path.{sym, ap}
-use Rattle.std.proofs.Common.{◌∙◌, subst, inl, inr, ⊎_elim, add-one, div-add-mod', mod-lt, mul-add, mul-zero, zero-mul}
+use Rattle.std.proofs.Common.{◌∙◌, subst, inl, inr, ⊎_elim, add-one, div-add-mod', mod-lt, mul-add, mul-le-mul_left, mul-zero, zero-mul}
 use native.Mathlib.Omega.{arith}
 use Rattle.std.proofs.Math.Nat.{add-mul, le_of_mul-le-mul_right}
-use Rattle.std.specs.List.{prefix_len}
+use Rattle.std.specs.List.{prefix_len, IsFirstMaxByKey}
 use Rattle.std.proofs.lemmas.Bool.{cases_eq, cases_lt, lt-ltb, le-ltb, ltb-true, ltb-false, cond-true, cond-false}
 use Rattle.std.proofs.lemmas.List.{length-set, length-map, get_or-map, get_or-set_same, get_or-set_other}
-use Rattle.std.proofs.lemmas.List.Sums.{sum_by-cons, sum_by-set, sum_by_more, sum_by-take-le, prefix_len_passes, prefix_len_stops}
+use Rattle.std.proofs.lemmas.List.Sums.{sum_by-cons, sum_by-set, sum_by_more, sum_by-take-le, get_or-le-sum_by, prefix_len_passes, prefix_len_stops}
 use Rattle.std.proofs.lemmas.List.Recursion.{max_least}
 use Rattle.sharing.specs.LargestRemainders.{floors, remainders, largest, first_largest, hand_out, largest_remainder_shares, Ahead, ServedFirst}
 
@@ -56,6 +56,23 @@ reached m rs z h =
     (λ l. (l, ltb-false _ _ (prefix_len_stops (λ x. ltb x m) rs 0 l)))
     (λ all. absurd (omega (arith, largest_least (m - 1) rs (λ k l. omega (arith, ltb-true _ _ (prefix_len_passes (λ x. ltb x m) rs k 0 (omega arith)))))))
     (cases_lt (prefix_len (λ x. ltb x m) rs) (length rs))
+
+-- the first place that does not pass
+leading_is : (p : ℕ → Bool) (rs : List ℕ) (b : ℕ) → b < length rs → ((k : ℕ) → k < b → p (slice_index rs k) ≡ true) → p (slice_index rs b) ≡ false → prefix_len p rs ≡ b
+leading_is p [] b l before at = absurd (omega arith)
+leading_is p (r ∷ rs) zero l before at = cond-false (p r) (1 + prefix_len p rs) 0 at
+leading_is p (r ∷ rs) (suc b) l before at =
+    cond-true (p r) (1 + prefix_len p rs) 0 (before 0 (omega arith))
+    ∙ omega (arith, leading_is p rs b (omega arith) (λ k h. before (suc k) (omega arith)) at)
+
+-- the best by a search is the first largest
+pub best_first : (rs : List ℕ) (b : ℕ) → IsFirstMaxByKey (λ (x : ℕ). x) rs (length rs) b → first_largest rs ≡ b
+unfolding first_largest
+best_first rs b best =
+    let most = largest_least (slice_index rs b) rs (λ k l. best.1 k 0 l) in
+    leading_is (λ x. ltb x (largest rs)) rs b best.0
+    (λ k l. lt-ltb _ _ (omega (arith, best.2 k 0 l, get_or_le_largest rs b)))
+    (le-ltb _ _ most)
 
 -- where a number is above 0, the first largest stands in the list and is above 0
 pub first_largest_positive : (rs : List ℕ) → 0 < positives rs → (first_largest rs < length rs) × (0 < slice_index rs (first_largest rs))
@@ -242,6 +259,9 @@ module _ (ws : List ℕ) (fund p w t : ℕ) (l : p < length ws) (ew : w ≡ slic
   pub remainder_code : fund * w % t ≡ slice_index (remainders ws fund) p
   unfolding remainders
   remainder_code = rw (ew, et) (sym (get_or-map (λ v. fund * v % sum ws) ws p 0 0 l))
+
+  pub part_fits : fund * w ≤ fund * sum ws
+  part_fits = rw ew (mul-le-mul_left fund (get_or-le-sum_by (λ (x : ℕ). x) ws p 0 l))
 
   pub floor_more : sum (take (p + 1) (floors ws fund)) ≡ sum (take p (floors ws fund)) + fund * w / t
   floor_more =
