@@ -5,7 +5,7 @@ ghost use Rattle.sharing.specs.Parts.{LessThanFenAbove, LessThanFenBelow};
 use crate::weights::Given;
 
 /// How a fund is shared among parties, by a given weight for each.
-// That the fund fits stays a `requires`: it speaks of the rule, so a type for it would name the rule in every implementer's signature.
+// That the fund fits and that there is room stay a `requires`: the one speaks of the rule, the other of the caller's slice, so a type would hold both.
 pub trait SharingRule {
     // the weights that count, of all the given weights
     ghost counted: { Self → List ℕ → List ℕ };
