@@ -1,11 +1,12 @@
 use Rattle.std.proofs.Common.{◌≡◌, ℕ, ◌-◌, ◌<◌, ◌≤◌, length, pos}
-use Rattle.prices.specs.Hours.{forming, side_at, energy_of, line_at, sold, first_from}
+use Rattle.prices.specs.Hours.{sold, first_from}
+use Rattle.prices.proofs.Pricing.{energy_by}
 use Rattle.prices.proofs.days.Day.first_from.Given as goal
 
 abbrev pub invariant-loop-side : goal.invariant-loop-side
 invariant-loop-side l =
     (goal.iterator-loop-side).can_next l.side-iterator × (goal.iterator-loop-side).is_finite l.side-iterator
-    × ((k : ℕ) → k < length l.yielded → forming (side_at l.fn.self.sides.now k) (energy_of l.market (line_at l.fn.self.lines.now k l.hour)) ≡ pos 0)
+    × ((k : ℕ) → k < length l.yielded → energy_by l.market l.fn.self.sides.now l.fn.self.lines.now l.hour k ≡ pos 0)
 
 abbrev pub invariant-hours : goal.invariant-hours
 invariant-hours l =
