@@ -5,6 +5,7 @@ use crate::book::RuleBook;
 use market::{Either, Line, Side, UnifiedPrices};
 
 /// One of two rule books is a rule book.
+// The methods are no twins: each asks another method of the book.
 impl<A: RuleBook, B: RuleBook> RuleBook for Either<A, B> {
     ghost contract = { chosen A.RuleBook.contract B.RuleBook.contract };
 

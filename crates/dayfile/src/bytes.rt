@@ -3,6 +3,8 @@ ghost use Rattle.dayfile.specs.Bytes.{byte_at, word_at, signed_at};
 
 use std::array;
 
+// An offset stays a number beside the file, with its bound in a `requires`: it is also told as the place of a fault.
+
 /// The byte at an offset; past the end it reads as 0.
 pub(crate) fn byte_at(file: &[u8], at: usize) -> u8
     ensures { result ≡ byte_at file.now at }

@@ -1,4 +1,4 @@
-use crate::words::{WordFault, end_of_words, name_of, next_number, next_word};
+use crate::words::{WordFault, end_of_words, next_number, next_word};
 use crate::yuan::{Fen, Micro};
 use bills::{Beyond, HourAmounts, bill, hour_amounts};
 use books::{ThreePart, TwoPart};
@@ -99,7 +99,7 @@ impl Question {
 
 impl fmt::Display for Payment {
     fn fmt<W: fmt::Write>(&self, f: &mut fmt::Formatter<W>) -> fmt::Result {
-        let party = name_of(self.side);
+        let party = self.side;
         let verb = if self.micro < 0 { "receives" } else { "pays" };
         let yuan = Micro::new(self.micro).abs();
         write!(f, "the {party} {verb} {yuan} yuan")

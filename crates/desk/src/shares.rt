@@ -16,6 +16,7 @@ pub(crate) struct Division {
 }
 
 /// A fund divided, and the shares in fen; past the last party there stand zeros.
+// An array, as `divide` answers it.
 #[derive(Clone, Copy)]
 pub(crate) struct Shares<'a> {
     division: &'a Division,

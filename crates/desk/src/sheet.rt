@@ -1,4 +1,3 @@
-use crate::words::name_of;
 use crate::yuan::Mil;
 use dayfile::DayFile;
 use faults::MonthFault;
@@ -29,11 +28,10 @@ impl Sheet<'_> {
         party: usize,
         side: Side,
     ) -> fmt::Result {
-        let kind = name_of(side);
         let energy = energy_of(&self.file, party, side);
         write!(
             f,
-            "\n  party {party:>2} {kind:<6} day-ahead {:>9} kWh  metered {:>9} kWh",
+            "\n  party {party:>2} {side:<6} day-ahead {:>9} kWh  metered {:>9} kWh",
             energy.day_ahead, energy.metered
         )
     }

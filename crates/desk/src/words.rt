@@ -1,4 +1,3 @@
-use market::Side;
 use std::error::Error;
 use std::fmt;
 use std::str::SplitWhitespace;
@@ -50,13 +49,5 @@ pub(crate) fn end_of_words(mut words: SplitWhitespace<'_>) -> Result<(), WordFau
     match words.next() {
         Some(_) => Err(WordFault::NoCommand),
         None => Ok(()),
-    }
-}
-
-/// A side in words. A function and no `Display`: the type is another crate's.
-pub(crate) fn name_of(side: Side) -> &'static str {
-    match side {
-        Side::Seller => "seller",
-        Side::Buyer => "buyer",
     }
 }

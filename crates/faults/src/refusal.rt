@@ -16,6 +16,8 @@ impl Refusal {
     }
 }
 
+// `refusal` is a method of each fault, and no `From`: the project asks for this form.
+
 impl FileFault {
     /// Layer, number and place of a file's fault: layer 1, numbers 11 to 14.
     pub fn refusal(self) -> Refusal

@@ -7,6 +7,7 @@ mod kinds;
 mod letters;
 mod limits;
 mod records;
+mod words;
 
 pub use either::Either;
 pub use kinds::{Side, Sides};

@@ -24,6 +24,7 @@ pub fn check_day(file: &[u8], letters: &[u8]) -> Result<(), MonthFault>
 }
 
 /// The same as one number: 0, or the number of the refusal alone. The crate `scheduler_c` exports it for C programs.
+// A number and no error: C is told one.
 pub fn pigeoncouch_check_day(file: &[u8], letters: &[u8]) -> u32
     ensures { result ≡ number_of (first (day_rows file.now letters.now)) }
 {

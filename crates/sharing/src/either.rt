@@ -6,6 +6,7 @@ use crate::weights::Given;
 use market::Either;
 
 /// One of two sharing rules is a sharing rule.
+// The methods are no twins: each asks another method of the rule.
 impl<A: SharingRule, B: SharingRule> SharingRule for Either<A, B> {
     ghost counted = { chosen A.SharingRule.counted B.SharingRule.counted };
 
