@@ -2,3 +2,4 @@ pub mod Asking
 pub mod Hours
 pub mod Provinces
 pub mod ProvincesLemmas
+pub mod Words

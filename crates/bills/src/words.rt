@@ -1,3 +1,6 @@
+ghost use Rattle.std.specs.Prelude.{Some};
+ghost use Rattle.bills.specs.Words.{beyond_words};
+
 use crate::asking::Beyond;
 use std::error::Error;
 use std::fmt;
@@ -5,6 +8,8 @@ use std::fmt;
 /// The numbers are named as in the formulas: QD and QM are day-ahead and metered energy, PD and PR node prices, UD and UR
 /// unified prices, QC and PC a contract's energy and price.
 impl fmt::Display for Beyond {
+    ghost output = { λ fault. Some (beyond_words fault) };
+
     fn fmt<W: fmt::Write>(&self, f: &mut fmt::Formatter<W>) -> fmt::Result {
         f.write_str(match self {
             Beyond::ContractCount => "more than 256 contracts",

@@ -7,3 +7,4 @@ pub mod RunningShares
 pub mod Counting
 pub mod Handing
 pub mod Telescoping
+pub mod Words

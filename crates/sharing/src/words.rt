@@ -1,8 +1,13 @@
+ghost use Rattle.std.specs.Prelude.{Some};
+ghost use Rattle.sharing.specs.Words.{unshareable_words};
+
 use crate::division::Unshareable;
 use std::error::Error;
 use std::fmt;
 
 impl fmt::Display for Unshareable {
+    ghost output = { λ fault. Some (unshareable_words fault) };
+
     fn fmt<W: fmt::Write>(&self, f: &mut fmt::Formatter<W>) -> fmt::Result {
         match self {
             Unshareable::PartyCount => f.write_str("not 1 to 64 parties"),
