@@ -1,4 +1,5 @@
 use crate::pool::Pool;
+use crate::provinces::{three_part_bill, two_part_bill};
 use bills::{Beyond, HourAmounts, bill, hour_amounts};
 use books::{RuleBook, ThreePart, TwoPart};
 use market::{Contract, Either, Line, Side, UnifiedPrices};
@@ -134,22 +135,22 @@ const APART: UnifiedPrices = UnifiedPrices {
 fn bills_by_the_provinces_formulas(rt: HostRuntime) {
     // 500 at 350,000 and 500 at −10,000, then 500 at 300,000 and 200 at 400,000
     assert_eq!(rt;
-        bill(&ThreePart, Side::Seller, &SOLD, PLANT, APART),
+        three_part_bill(Side::Seller, &SOLD, PLANT, APART),
         Ok(-400_000_000)
     );
     // 500 at 350,000, then 400 at 310,000 and 250 at 390,000
     assert_eq!(rt;
-        bill(&ThreePart, Side::Buyer, &SOLD, USER, APART),
+        three_part_bill(Side::Buyer, &SOLD, USER, APART),
         Ok(396_500_000)
     );
     // 500 at 360,000, then 700 at 400,000 and 1,000 at −100,000
     assert_eq!(rt;
-        bill(&TwoPart, Side::Seller, &SOLD, PLANT, APART),
+        two_part_bill(Side::Seller, &SOLD, PLANT, APART),
         Ok(-360_000_000)
     );
     // 500 at 350,000, then 650 at 390,000
     assert_eq!(rt;
-        bill(&TwoPart, Side::Buyer, &SOLD, USER, APART),
+        two_part_bill(Side::Buyer, &SOLD, USER, APART),
         Ok(428_500_000)
     );
 }
@@ -192,11 +193,11 @@ fn the_largest_numbers(rt: HostRuntime) {
     };
     let many = [contract; 256];
     assert_eq!(rt;
-        bill(&ThreePart, Side::Seller, &[], LARGEST, FARTHEST),
+        three_part_bill(Side::Seller, &[], LARGEST, FARTHEST),
         Ok(-40_000_000_000_000)
     );
     assert_eq!(rt;
-        bill(&ThreePart, Side::Buyer, &many, LARGEST, FARTHEST),
+        three_part_bill(Side::Buyer, &many, LARGEST, FARTHEST),
         Ok(10_200_000_000_000_000)
     );
 }
@@ -208,34 +209,34 @@ fn hours_that_cannot_be_asked_about(rt: HostRuntime) {
     line.metered = -1;
     line.real_time_price = 5_000_001;
     assert_eq!(rt;
-        bill(&TwoPart, seller, &SOLD, line, UNIFIED),
+        two_part_bill(seller, &SOLD, line, UNIFIED),
         Err(Beyond::MeteredEnergy)
     );
     line.metered = 0;
     assert_eq!(rt;
-        bill(&TwoPart, seller, &SOLD, line, UNIFIED),
+        two_part_bill(seller, &SOLD, line, UNIFIED),
         Err(Beyond::RealTimePrice)
     );
     line.day_ahead = 4_000_001;
     assert_eq!(rt;
-        bill(&TwoPart, seller, &SOLD, line, UNIFIED),
+        two_part_bill(seller, &SOLD, line, UNIFIED),
         Err(Beyond::DayAheadEnergy)
     );
     line = PLANT;
     line.day_ahead_price = i64::MIN;
     assert_eq!(rt;
-        bill(&ThreePart, seller, &SOLD, line, UNIFIED),
+        three_part_bill(seller, &SOLD, line, UNIFIED),
         Err(Beyond::DayAheadPrice)
     );
     let mut unified = UNIFIED;
     unified.real_time = -5_000_001;
     assert_eq!(rt;
-        bill(&ThreePart, seller, &SOLD, PLANT, unified),
+        three_part_bill(seller, &SOLD, PLANT, unified),
         Err(Beyond::RealTimeUnified)
     );
     unified.day_ahead = i64::MAX;
     assert_eq!(rt;
-        bill(&ThreePart, seller, &SOLD, PLANT, unified),
+        three_part_bill(seller, &SOLD, PLANT, unified),
         Err(Beyond::DayAheadUnified)
     );
 }
@@ -244,23 +245,23 @@ fn hours_that_cannot_be_asked_about(rt: HostRuntime) {
 fn contracts_that_cannot_be_asked_about(rt: HostRuntime) {
     let many = [SOLD[0]; 257];
     assert_eq!(rt;
-        bill(&TwoPart, Side::Buyer, &many, USER, UNIFIED),
+        two_part_bill(Side::Buyer, &many, USER, UNIFIED),
         Err(Beyond::ContractCount)
     );
     let mut three = [SOLD[0]; 3];
     three[2].kwh = -1;
     assert_eq!(rt;
-        bill(&TwoPart, Side::Buyer, &three, USER, UNIFIED),
+        two_part_bill(Side::Buyer, &three, USER, UNIFIED),
         Err(Beyond::ContractEnergy(2))
     );
     three[1].price = 5_000_001;
     assert_eq!(rt;
-        bill(&TwoPart, Side::Buyer, &three, USER, UNIFIED),
+        two_part_bill(Side::Buyer, &three, USER, UNIFIED),
         Err(Beyond::ContractPrice(1))
     );
     three[1].kwh = 4_000_001;
     assert_eq!(rt;
-        bill(&TwoPart, Side::Buyer, &three, USER, UNIFIED),
+        two_part_bill(Side::Buyer, &three, USER, UNIFIED),
         Err(Beyond::ContractEnergy(1))
     );
 }

@@ -7,3 +7,4 @@ mod amounts;
 #[cfg(test)]
 mod numbers;
 mod pool;
+mod provinces;

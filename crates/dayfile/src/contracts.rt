@@ -43,6 +43,7 @@ fn is_on(sides: &[Side], party: u8, side: Side) -> bool
 }
 
 /// Whether a contract's hour, energy or price is beyond its limits.
+// By comparisons, in the order of the definition: `contains` would say no less.
 fn wrong_terms(contract: Contract) -> bool
     ensures { result ≡ wrong_terms contract }
 {

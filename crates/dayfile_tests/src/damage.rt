@@ -29,6 +29,7 @@ pub(crate) struct Case(
 );
 
 /// A refusal by its layer, number and place.
+// The tables hold the three numbers: the value of a constant may call no function, and a literal of each would hide them.
 pub(crate) fn refusal((layer, number, place): (u8, u8, u64)) -> Refusal {
     Refusal {
         layer,

@@ -32,7 +32,7 @@ struct Payment {
     micro: i64,
 }
 
-/// A rule book by its name. A function and no `TryFrom`: the types are other crates'.
+/// A rule book by its name. A function and no `TryFrom`: the types are other crates'. One for both families of rules would need a table of names and values.
 fn book_of(word: &str) -> Result<Either<ThreePart, TwoPart>, WordFault<'_>> {
     match word {
         "three-part" => Ok(Either::First(ThreePart)),

@@ -16,7 +16,7 @@ pub(crate) struct Division {
 }
 
 /// A fund divided, and the shares in fen; past the last party there stand zeros.
-// An array, as `divide` answers it.
+// An array, as `divide` answers it: the library has no heap.
 #[derive(Clone, Copy)]
 pub(crate) struct Shares<'a> {
     division: &'a Division,
@@ -32,7 +32,7 @@ struct Portion {
     part: ExactPart,
 }
 
-/// A rule by its name. A function and no `TryFrom`: the types are other crates'.
+/// A rule by its name. A function and no `TryFrom`: the types are other crates'. One for both families of rules would need a table of names and values.
 fn rule_of(word: &str) -> Result<Either<LargestRemainder, Running>, WordFault<'_>> {
     match word {
         "largest-remainder" => Ok(Either::First(LargestRemainder)),

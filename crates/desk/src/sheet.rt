@@ -14,6 +14,7 @@ pub(crate) struct Sheet<'a> {
 
 impl<'a> Sheet<'a> {
     /// The same check as the scheduler's, and the sheet of a file that passes.
+    // Not `check_day`: that keeps neither the sides nor the file.
     pub(crate) fn accept(bytes: &'a [u8], letters: &[u8]) -> Result<Sheet<'a>, MonthFault> {
         let sides = Sides::from_letters(letters)?;
         let file = DayFile::accept(bytes, sides.as_slice())?;

@@ -4,6 +4,7 @@ use std::fmt;
 
 /// An amount in a unit of which a yuan has `PER`, a power of 10. It is printed with yuan before the point, and as many digits
 /// after it as `PER` has zeros.
+// The sign stands apart: the least number of 64 bits has no negative.
 #[derive(Clone, Copy)]
 pub(crate) struct Yuan<const PER: u64> {
     negative: bool,

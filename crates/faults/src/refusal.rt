@@ -16,7 +16,7 @@ impl Refusal {
     }
 }
 
-// `refusal` is a method of each fault, and no `From`: the project asks for this form.
+// `refusal` is a method of each fault and no `From`, a form of docs/DECISIONS.md: it tells of a fault, and turns it into nothing.
 
 impl FileFault {
     /// Layer, number and place of a file's fault: layer 1, numbers 11 to 14.

@@ -10,7 +10,7 @@ use crate::limits::MAX_PARTIES;
 use faults::MonthFault;
 
 /// The side that a letter names; `index` is where it stands among the letters.
-// A match on a `char`: the project asks for this form.
+// A match on a `char` and no `TryFrom`, a form of docs/DECISIONS.md: the fault needs the index as well.
 pub(crate) fn side_of(letter: char, index: usize) -> Result<Side, MonthFault>
     ensures { result ≡ side_of letter index }
 {

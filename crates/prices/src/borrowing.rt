@@ -6,8 +6,11 @@ use crate::days::{Day, Hour};
 use crate::hours::forming;
 use crate::kinds::Market;
 
+// A market and an hour stay two arguments: each market is asked of an hour, and each hour of a market.
+
 impl Day<'_> {
-    // The first hour from `from` on that is not empty. The project asks for this form of a search, a `loop` left with its find.
+    // The first hour from `from` on that is not empty.
+    // A `loop` over hours left with its find, and a labelled exit from the inner one: a form of docs/DECISIONS.md.
     fn first_from(self, market: Market, from: Hour) -> Option<usize>
         ensures { result ≡ first_from (sold market self.entry.sides.now self.entry.lines.now) from.index (24 - from.index) }
     {
@@ -41,7 +44,7 @@ impl Day<'_> {
         ensures value { result ≡ lender (sold market self.entry.sides.now self.entry.lines.now) hour.index }
         ensures borrows { Borrows (sold market self.entry.sides.now self.entry.lines.now) hour.index result }
     {
-        // not `or_else`: nothing is known here of what a closure passed to it answers
+        // tried with `or_else`: the clause `value` stayed open, since nothing is known of what the closure that is passed answers
         match self.first_from(market, hour) {
             Some(later) => Some(later),
             None => self.last_before(market, hour),

@@ -3,6 +3,8 @@ ghost use Rattle.prices.specs.Hours.{PriceDay, beyond_line, line_at, no_line};
 
 use market::{Line, MAX_PARTIES, Side, beyond_day_ahead, beyond_price};
 
+// 24 has no name: the hours of a day are no limit that a rule could set otherwise.
+
 /// An hour of a day, counted from 0.
 #[derive(Clone, Copy)]
 pub(crate) struct Hour {
@@ -23,6 +25,7 @@ impl Hour {
 }
 
 /// What prices are asked of: the lines of a day, party by party, and a reference price.
+// Two slices, as callers have them: nothing can be put together without a heap.
 #[derive(Clone, Copy)]
 pub(crate) struct Day<'a> {
     pub(crate) sides: &'a [Side],

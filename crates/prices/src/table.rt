@@ -23,6 +23,7 @@ impl Day<'_> {
     }
 
     // Both prices of an hour.
+    // A pair of plain numbers, a form of docs/DECISIONS.md; a table of hours holds the same pairs.
     fn pair(self, hour: Hour) -> (i64, i64)
         ensures { PairedBy self.entry.sides.now self.entry.lines.now self.entry.reference hour.index result }
     {
@@ -31,6 +32,8 @@ impl Day<'_> {
         (day_ahead.mil, real_time.mil)
     }
 }
+
+// The three functions below take the records apart from one another: that is how callers hold them, and a `Day` would be made to be asked once.
 
 /// The unified price of an hour, counted from 0, in one of the two markets, with the hour that it comes from. None where these
 /// are not the lines of a day within their limits, the reference price is outside those of a price, or there is no such hour.

@@ -82,6 +82,10 @@ first_largest_positive rs h =
     let r = reached (largest rs) rs z (omega arith) in
     (r.0, omega (arith, r.1))
 
+-- what stands before the first that does not pass, passes
+leading_before : (p : ℕ → Bool) (rs : List ℕ) (k : ℕ) → k < prefix_len p rs → p (slice_index rs k) ≡ true
+leading_before p rs k l = prefix_len_passes p rs k 0 l
+
 -- no number is above the first largest, and those before it are below it
 pub first_largest_best : (rs : List ℕ) → 0 < positives rs → (k : ℕ) →
     (slice_index rs k ≤ slice_index rs (first_largest rs)) × (k < first_largest rs → slice_index rs k < slice_index rs (first_largest rs))
@@ -90,7 +94,7 @@ first_largest_best rs h k =
     let z = largest_positive rs h in
     let r = reached (largest rs) rs z (omega arith) in (
       omega (arith, r.1, get_or_le_largest rs k),
-      λ l. omega (arith, r.1, ltb-true _ _ (prefix_len_passes (λ x. ltb x (largest rs)) rs k 0 l)),
+      λ l. omega (arith, r.1, ltb-true _ _ (leading_before (λ x. ltb x (largest rs)) rs k l)),
     )
 
 -- what handing out n fen does

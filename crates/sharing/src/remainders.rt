@@ -57,7 +57,7 @@ fn write_remainders(counted: &Counted, fund: u64, rest: &mut [u64])
 }
 
 // Hands out what is left: one fen at a time to the largest remainder that has none yet.
-// Remainders and shares stay two lists, since a caller has room for the shares alone.
+// Remainders and shares stay two lists: of a list of pairs the shares would have to be copied out again for the caller.
 fn hand_out(left: u64, rest: &mut [u64], out: &mut [u64])
     requires some { 0 < length rest.old }
     requires room { length out.old ≡ length rest.old }

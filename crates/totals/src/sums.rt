@@ -5,6 +5,8 @@ use crate::energy::Energy;
 use dayfile::DayFile;
 use market::Side;
 
+// A party and its side stay two arguments: the side is the caller's, and the file knows none.
+
 /// The energy of a party, which is of this side, in an hour; 0 where the file has no such party or hour.
 fn energy_in(file: &DayFile<'_>, party: usize, side: Side, hour: usize) -> Energy
     ensures { result ≡ energy_in file.now party side hour }
