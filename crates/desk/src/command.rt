@@ -1,10 +1,8 @@
 ghost use Rattle.std.specs.Prelude.{◌≡◌, [], codes, ◌≢◌};
 
 use crate::amounts::Question;
-use crate::failure::Failure;
 use crate::shares::Division;
 use crate::words::{WordFault, end_of_words, next_word};
-use std::alloc::Global;
 use std::str::SplitWhitespace;
 
 /// A day's file as a command names it: the kind letters of its parties, and its path.
@@ -55,14 +53,14 @@ impl<'a> NamedFile<'a> {
 
 impl<'a> Command<'a> {
     /// What the words of a line ask for.
-    pub(crate) fn parse(alloc: Global, words: &'a str) -> Result<Command<'a>, Failure<'a>> {
+    pub(crate) fn parse(words: &'a str) -> Result<Command<'a>, WordFault<'a>> {
         let mut words = words.split_whitespace();
         match next_word(&mut words)? {
             "check" => Ok(Command::Check(NamedFile::parse(words)?)),
             "show" => Ok(Command::Show(NamedFile::parse(words)?)),
             "amounts" => Ok(Command::Amounts(Question::parse(words)?)),
-            "divide" => Ok(Command::Divide(Division::parse(alloc, words)?)),
-            _ => Err(Failure::Words(WordFault::NoCommand)),
+            "divide" => Ok(Command::Divide(Division::parse(words)?)),
+            _ => Err(WordFault::NoCommand),
         }
     }
 }

@@ -2,7 +2,6 @@ use crate::words::WordFault;
 use bills::Beyond;
 use faults::MonthFault;
 use sharing::Unshareable;
-use std::alloc::AllocFailed;
 use std::error::Error;
 use std::{fmt, io};
 
@@ -16,7 +15,7 @@ pub(crate) enum Failure<'a> {
     Refused(MonthFault),
     Beyond(Beyond),
     Unshareable(Unshareable),
-    /// out of memory, or the answer is not printed: this ends the program
+    /// the answer is not printed: this ends the program
     Ends(io::Error),
 }
 
@@ -69,11 +68,5 @@ impl From<Unshareable> for Failure<'_> {
 impl From<io::Error> for Failure<'_> {
     fn from(error: io::Error) -> Self {
         Failure::Ends(error)
-    }
-}
-
-impl<T: Drop> From<AllocFailed<T>> for Failure<'_> {
-    fn from(error: AllocFailed<T>) -> Self {
-        Failure::Ends(io::Error::from(error))
     }
 }

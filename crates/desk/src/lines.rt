@@ -20,7 +20,7 @@ pub(crate) fn run_line(rt: &(impl Files + Print + AllocGlobal), line: &str) -> i
 
 /// Runs the command that the words are, and prints its answer if that is ok.
 fn answer<'a>(rt: &(impl Files + Print + AllocGlobal), words: &'a str) -> Result<(), Failure<'a>> {
-    match Command::parse(rt.alloc(), words)? {
+    match Command::parse(words)? {
         Command::Check(file) => {
             let bytes = read(rt, file.path)?;
             check_day(&bytes, file.letters)?;

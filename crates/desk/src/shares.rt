@@ -1,18 +1,21 @@
-use crate::failure::Failure;
 use crate::words::{WordFault, next_number, next_word};
 use crate::yuan::Fen;
+use arrayvec::ArrayVec;
 use market::{Either, MAX_PARTIES};
 use sharing::{ExactPart, LargestRemainder, Running, Unshareable, divide, exact_part};
-use std::alloc::Global;
 use std::fmt;
 use std::str::SplitWhitespace;
 
+/// How many weights of a line are kept: one more than there may be parties stands for too many.
+const KEPT_WEIGHTS: usize = MAX_PARTIES + 1;
+
 /// What `divide` asks for: a sharing rule, a fund in fen, and the weights of the parties.
+// No `Vec`: a line may have any number of weights, and needs no heap for them.
 #[derive(Drop)]
 pub(crate) struct Division {
     rule: Either<LargestRemainder, Running>,
     fund: i64,
-    weights: Vec<u64>,
+    weights: ArrayVec<u64, KEPT_WEIGHTS>,
 }
 
 /// A fund divided, and the shares in fen; past the last party there stand zeros.
@@ -43,16 +46,14 @@ fn rule_of(word: &str) -> Result<Either<LargestRemainder, Running>, WordFault<'_
 
 impl Division {
     /// Reads the words `SHARING FUND WEIGHT..`.
-    pub(crate) fn parse<'a>(
-        alloc: Global,
-        mut words: SplitWhitespace<'a>,
-    ) -> Result<Division, Failure<'a>> {
+    pub(crate) fn parse<'a>(mut words: SplitWhitespace<'a>) -> Result<Division, WordFault<'a>> {
         let rule = rule_of(next_word(&mut words)?)?;
         let fund = next_number(&mut words)?;
-        let mut weights = Vec::new(alloc);
+        let mut weights = ArrayVec::new();
         for word in words {
             let weight = word.parse().map_err(|_| WordFault::NoWeight(word))?;
-            weights.push(weight)?;
+            // where there is no room, there are too many already
+            let _ = weights.try_push(weight);
         }
         Ok(Division {
             rule,
