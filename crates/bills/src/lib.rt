@@ -9,4 +9,4 @@ mod words;
 
 pub use asking::Beyond;
 pub use hours::{HourAmounts, hour_amounts};
-pub use provinces::{ProvincialBook, bill};
+pub use provinces::{ProvincialBook, bill, three_part_bill, two_part_bill};

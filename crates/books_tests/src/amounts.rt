@@ -1,6 +1,5 @@
 use crate::pool::Pool;
-use crate::provinces::{three_part_bill, two_part_bill};
-use bills::{Beyond, HourAmounts, bill, hour_amounts};
+use bills::{Beyond, HourAmounts, bill, hour_amounts, three_part_bill, two_part_bill};
 use books::{RuleBook, ThreePart, TwoPart};
 use market::{Contract, Either, Line, Side, UnifiedPrices};
 

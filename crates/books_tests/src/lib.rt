@@ -7,4 +7,3 @@ mod amounts;
 #[cfg(test)]
 mod numbers;
 mod pool;
-mod provinces;
