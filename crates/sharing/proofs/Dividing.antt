@@ -1,12 +1,11 @@
 -- Lemmas on the division of a fund of either sign.
-use Rattle.std.proofs.Common.{◌≡◌, ℕ, zero, suc, ◌+◌, ◌-◌, ◌*◌, ◌/◌, ◌%◌, ◌<◌, ◌≤◌, Bool, true, false, cond, ◌||◌, ltb, leb, List, [], ◌∷◌, ◌++◌, map, length, get_or, drop, replicate, ℤ, pos, negsuc, ◌+ℤ◌, ◌-ℤ◌, ◌*ℤ◌, neg_ℤ, nat_abs, is_some, Some, None, fold, sum, Option, Result, Ok, Err, sym, refl, ap, ◌∙◌, subst, ⊎_elim, mul-le-mul_right, mul-le-mul_left, div-mul-le_self, arith}
+use Rattle.std.proofs.Common.{◌≡◌, ℕ, ◌+◌, ◌-◌, ◌*◌, ◌/◌, ◌%◌, ◌<◌, ◌≤◌, Bool, true, false, cond, ◌||◌, ltb, leb, List, [], ◌∷◌, ◌++◌, map, length, get_or, drop, replicate, ℤ, pos, negsuc, ◌+ℤ◌, ◌-ℤ◌, ◌*ℤ◌, neg_ℤ, nat_abs, is_some, Some, None, fold, sum, Option, Result, Ok, Err, sym, refl, ap, ◌∙◌, subst, ⊎_elim, mul-le-mul_right, mul-le-mul_left, div-mul-le_self, arith}
 use lib.IntN.{neg_ℤ-+ℤ, pos-*ℤ-pos}
 use lib.Signed.{lt_z}
 use Rattle.std.proofs.lemmas.Nat.{le-div}
-use Rattle.std.proofs.lemmas.List.{drop-replicate, get_or_append_left, get_or-map, length-map, map-append, take_at}
+use Rattle.std.proofs.lemmas.List.{drop-replicate, get_or_append_left, get_or-map, length-map, take_at}
 use Rattle.std.proofs.lemmas.Int.{ints}
-use Rattle.std.proofs.lemmas.List.Sums.{prefix_len_is, sum_by-append}
-use Rattle.std.proofs.lemmas.List.Folds.{sum_by-replicate}
+use Rattle.std.proofs.lemmas.List.Sums.{prefix_len_is}
 use Rattle.std.proofs.lemmas.Bool.{cond-true, cond-false, or_from, le-ltb, lt-ltb, le-leb, lt-leb, cases_lt}
 use Rattle.std.specs.Result.{result_ok, result_err}
 use Rattle.money.proofs.Products.{neg_times}
@@ -90,24 +89,12 @@ sign_none fund = by (lt_z fund (pos 0))
     by true = refl
     by false = refl
 
-sign_zeros : (fund : ℤ) (n : ℕ) → map (signed_as fund) (replicate n 0) ≡ replicate n (pos 0)
-sign_zeros fund zero = refl
-sign_zeros fund (suc n) = ap (λ (z : ℤ). z ∷ map (signed_as fund) (replicate n 0)) (sign_none fund) ∙ ap (λ zs. pos 0 ∷ zs) (sign_zeros fund n)
-
--- sizes of 64 parties, of which those past the last are 0, as signed shares
-pub signed_all : (fund : ℤ) (sizes : List ℕ) (n : ℕ) → length sizes ≡ n → map (signed_as fund) (sizes ++ drop n (replicate most_parties 0)) ≡ signed_shares fund sizes
+-- the signed shares of n parties, and the zeros past the last
+pub signed_all : (fund : ℤ) (sizes : List ℕ) (n : ℕ) → length sizes ≡ n → map (signed_as fund) sizes ++ drop n (replicate most_parties (pos 0)) ≡ signed_shares fund sizes
 unfolding signed_shares
 signed_all fund sizes n long =
-    map-append (signed_as fund) sizes (drop n (replicate most_parties 0))
-    ∙ ap (λ (zeros : List ℕ). map (signed_as fund) sizes ++ map (signed_as fund) zeros) (drop-replicate n most_parties 0)
-    ∙ ap (λ (zeros : List ℤ). map (signed_as fund) sizes ++ zeros) (sign_zeros fund (most_parties - n))
+    ap (λ (zeros : List ℤ). map (signed_as fund) sizes ++ zeros) (drop-replicate n most_parties (pos 0))
     ∙ ap (λ (k : ℕ). map (signed_as fund) sizes ++ replicate (most_parties - k) (pos 0)) (sym long)
-
--- and the zeros add nothing
-pub padded_sum : (sizes : List ℕ) (n : ℕ) → sum (sizes ++ drop n (replicate most_parties 0)) ≡ sum sizes
-padded_sum sizes n =
-    let zeros = ap sum (drop-replicate n most_parties 0) ∙ sum_by-replicate (λ (x : ℕ). x) (most_parties - n) 0 in
-    omega (arith, sum_by-append (λ (x : ℕ). x) sizes (drop n (replicate most_parties 0)))
 
 -- a fund by its size
 sign_size : (fund : ℤ) → signed_as fund (nat_abs fund) ≡ fund

@@ -1,4 +1,4 @@
-ghost use Rattle.std.specs.Prelude.{◌≡◌, ◌<◌, ◌≤◌, length, IfOk, None, sum, OnOk, unsigned_abs};
+ghost use Rattle.std.specs.Prelude.{◌≡◌, ◌<◌, ◌≤◌, length, map, IfOk, None, sum, OnOk, unsigned_abs};
 ghost use Rattle.std.specs.Result.{result_err};
 ghost use Rattle.sharing.specs.Divisions.{unweighable, unshareable, signed_as, signed_shares, part_of, AddUp, NearParts};
 ghost use Rattle.sharing.specs.Limits.{Weights, Shareable, most_parties, most_product};
@@ -62,6 +62,18 @@ fn signed_share(fund: i64, size: u64) -> i64
     if fund < 0 { -share } else { share }
 }
 
+// Writes the shares of these sizes.
+// The sizes by index: of a `zip` of `iter_mut` the proof has no name for what is written.
+fn write_signed(fund: i64, sizes: &[u64], shares: &mut [i64])
+    requires room { length shares.old ≡ length sizes.now }
+    requires small { sum sizes.now ≤ most_product }
+    ensures { shares.new ≡ map (signed_as fund) sizes.now }
+{
+    for (party, share) in shares.iter_mut().enumerate() {
+        *share = signed_share(fund, sizes[party]);
+    }
+}
+
 /// Divides a fund among parties by a rule and a given weight for each. The shares of a negative fund are those of its size, negated; past the last party
 /// there stand zeros. The shares add up to the fund, and each is less than one fen away from the party's exact part.
 pub fn divide<R: SharingRule>(
@@ -79,8 +91,11 @@ pub fn divide<R: SharingRule>(
     check_fund(rule, &given, size)?;
     // as many places as there may be parties, since there is no heap here
     let mut sizes = [0; MAX_PARTIES];
-    rule.share_all(&given, size, &mut sizes[..given.weights.len()]);
-    Ok(sizes.map(|size| signed_share(fund, size)))
+    let sizes = &mut sizes[..given.weights.len()];
+    rule.share_all(&given, size, sizes);
+    let mut shares = [0; MAX_PARTIES];
+    write_signed(fund, sizes, &mut shares[..given.weights.len()]);
+    Ok(shares)
 }
 
 /// A party's exact part of a fund's size, or none where the fund is not shared or there is no such party.

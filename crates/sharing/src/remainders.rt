@@ -27,33 +27,25 @@ fn first_largest(numbers: &[u64]) -> usize
     first
 }
 
-// Writes each party's part of the fund rounded down. What is left of the fund.
-fn round_down(counted: &Counted, fund: u64, out: &mut [u64]) -> u64
+// Writes each party's part of the fund rounded down, and what that takes from it. What is left of the fund.
+fn round_down(counted: &Counted, fund: u64, out: &mut [u64], rest: &mut [u64]) -> u64
     requires fund { Shareable fund counted.now }
     requires room { length out.old ≡ length counted.now }
+    requires space { length rest.old ≡ length counted.now }
     ensures floors { out.new ≡ floors counted.now fund }
+    ensures rest { rest.new ≡ remainders counted.now fund }
     ensures left { result ≡ fund - sum (floors counted.now fund) }
 {
     let total = counted.total();
     let mut left = fund;
+    // one loop, since one division gives both; the remainders by index: of a `zip` of two `iter_mut` the proof has no name for what is written
     for (party, share) in out.iter_mut().enumerate() {
-        *share = fund * counted.weight(party) / total;
+        let part = fund * counted.weight(party);
+        *share = part / total;
+        rest[party] = part % total;
         left -= *share;
     }
     left
-}
-
-// Writes what rounding down takes from each party's part.
-// A loop of its own: of one over a `zip` of two `iter_mut` the proof has no name for what is written.
-fn write_remainders(counted: &Counted, fund: u64, rest: &mut [u64])
-    requires fund { Shareable fund counted.now }
-    requires room { length rest.old ≡ length counted.now }
-    ensures { rest.new ≡ remainders counted.now fund }
-{
-    let total = counted.total();
-    for (party, rest) in rest.iter_mut().enumerate() {
-        *rest = fund * counted.weight(party) % total;
-    }
 }
 
 // Hands out what is left: one fen at a time to the largest remainder that has none yet.
@@ -114,11 +106,10 @@ impl SharingRule for LargestRemainder {
         ensures served { ServedFirst (as_given given.now) fund out.new }
     {
         let counted = Counted::of(given);
-        let left = round_down(&counted, fund, out);
         // as many places as there may be parties, since there is no heap here
         let mut rest = [0; MAX_PARTIES];
         let rest = &mut rest[..given.weights.len()];
-        write_remainders(&counted, fund, rest);
+        let left = round_down(&counted, fund, out, rest);
         hand_out(left, rest, out);
     }
 }

@@ -53,11 +53,13 @@ impl Counting {
     fn of(weights: &[u64]) -> Counting
         ensures { map (counts_as result) weights.now ≡ as_given weights.now }
     {
-        if weights.iter().all(|weight| *weight == 0) {
-            Counting::OneEach
-        } else {
-            Counting::AsGiven
+        // a `for` and no `all` or `any`, which take half as long again: of weights of 0 this is asked for each party
+        for weight in weights {
+            if *weight != 0 {
+                return Counting::AsGiven;
+            }
         }
+        Counting::OneEach
     }
 
     /// What a given weight counts.

@@ -1,16 +1,10 @@
-use Rattle.std.proofs.Common.{◌≡◌, ℕ, ◌≤◌, ◌<◌, ◌++◌, List, length, get_or, drop, map, replicate, ℤ, pos, nat_abs, sum, sym, ap, ◌∙◌, subst, rules, arith, w64}
-use Rattle.std.proofs.lemmas.List.{length-append, length-drop, length-replicate}
+use Rattle.std.proofs.Common.{◌≡◌, ℕ, ◌≤◌, ◌++◌, List, length, drop, map, take, replicate, ℤ, pos, nat_abs, sum, sym, ap, ◌∙◌, subst, arith, w64}
+use Rattle.std.proofs.lemmas.List.{length-take-le}
 use Rattle.std.proofs.lemmas.Int.{to_z-of_z}
-use Rattle.std.proofs.lemmas.Iterator.Adapters.{serves_from_places}
-use Rattle.std.proofs.lemmas.Iterator.Consumers.{YieldsList-from_shown}
-use Rattle.std.proofs.lemmas.List.Sums.{get_or-le-sum_by}
 use Rattle.std.proofs.lemmas.Result.{err_from_is_err_and}
-use Rattle.std.specs.Array.{list_steps}
-use borrow.Author.Tests.{tests}
 use Rattle.sharing.specs.Divisions.{unshareable, signed_as, signed_shares, AddUp, NearParts}
-use Rattle.sharing.specs.Limits.{Shareable, Weights, most_product}
-use Rattle.sharing.proofs.Dividing.{size_within, adds_up, near_parts, refused_weights, signed_all, padded_sum}
-use Rattle.sharing.proofs.Mapping.{mapped}
+use Rattle.sharing.specs.Limits.{Shareable, Weights}
+use Rattle.sharing.proofs.Dividing.{size_within, adds_up, near_parts, refused_weights, signed_all}
 use Rattle.sharing.proofs.division.divide.Goals as goal
 
 pub returns-in_err-given-clause-refusal : goal.returns-in_err-given-clause-refusal
@@ -18,26 +12,24 @@ returns-in_err-given-clause-refusal g c =
     let p = err_from_is_err_and c.from_residual.result c.from_residual.ensures.1 in
     rw (p.1, p.2) (refused_weights c.args.given.now (g.R.SharingRule.counted c.args.rule.now c.args.given.now) (nat_abs c.args.fund) c.in_err-given.field-0.0 c.in_err-given.ensures.refusal)
 
-pub map-requires : goal.map-requires
-map-requires g c =
+front_long : {A : Type 0} (n : ℕ) (xs : List A) (out : List ℕ) → n ≤ length xs → n ≡ length out → length (take n xs) ≡ length out
+front_long n xs out few e = length-take-le n xs few ∙ e
+
+pub write_signed-requires : goal.write_signed-requires
+write_signed-requires g c =
     let gs : List ℕ = c.in_ok-given.given in
     let size : ℕ = c.unsigned_abs-size.result in
+    let n : ℕ = length c.given.inside.weights.now in
     let fit : Weights gs = subst Weights c.given.view_is c.given.invariant in
+    let fund : Shareable size (g.R.SharingRule.counted c.args.rule.now gs) = c.in_ok-check_fund.ensures.fund in
     let law = g.met.R.SharingRule in
-    let adds = law.adds c.args.rule.now gs size fit c.in_ok-check_fund.ensures.fund in
-    let most = size_within size (g.R.SharingRule.counted c.args.rule.now gs) (law.weighs c.args.rule.now gs fit) c.in_ok-check_fund.ensures.fund in
-    let all : List ℕ = c.share_all.new.out ++ drop (length c.given.inside.weights.now) (replicate 64 0) in
-    let small : (x k : ℕ) → k < length all → x ≡ get_or all k x → x ≤ most_product =
-    λ x k l at. omega (arith, get_or-le-sum_by (λ (y : ℕ). y) all k x l, padded_sum c.share_all.new.out (length c.given.inside.weights.now), ap sum c.share_all.ensures, adds, most) in (
-      omega arith,
-      (
-        omega arith,
-        (
-          omega arith,
-          serves_from_places (YieldsList-from_shown list_steps (λ (x : ℕ). x) (λ (s : List ℕ). s) (λ s t e. ap length e) (λ s x t e. e) all) (λ x q k. search (rules, tests)) (λ x k l at. let bound = small x k l at in search (rules, tests)),
-        ),
-      ),
-    )
+    let adds = law.adds c.args.rule.now gs size fit fund in
+    let most = size_within size (g.R.SharingRule.counted c.args.rule.now gs) (law.weighs c.args.rule.now gs fit) fund in
+    record {
+      room = front_long n _ c.share_all.new.out (omega (arith, ap length c.given.view_is, fit.few))
+          (omega (arith, ap length c.share_all.ensures, law.complete c.args.rule.now gs size fit fund, ap length c.given.view_is));
+      small = omega (arith, ap sum c.share_all.ensures, adds, most);
+    }
 
 pub returns : goal.returns
 returns g c =
@@ -56,11 +48,9 @@ returns g c =
     let long = law.complete rule given (nat_abs fund) weights within in
     let out : c.share_all.new.out ≡ sizes =
     c.share_all.ensures ∙ ap (λ (ws : List ℕ). g.R.SharingRule.shares rule ws c.unsigned_abs-size.result) same ∙ ap (g.R.SharingRule.shares rule given) size in
-    let all : List ℕ = c.share_all.new.out ++ drop n (replicate 64 0) in
-    let e : c.map.result ≡ signed_shares fund sizes =
-    mapped _ (signed_as fund) _ all c.map.result 0 (pos 0) (λ x y q k. search (rules, tests)) 64 c.map.ensures.items
-    (omega (arith, length-append c.share_all.new.out (drop n (replicate 64 0)), length-drop {A = ℕ} n (replicate 64 0), length-replicate {A = ℕ} 64 0, ap length out, long, ap length (c.given.view_is ∙ same), weights.few))
-    ∙ ap (λ (xs : List ℕ). map (signed_as fund) (xs ++ drop n (replicate 64 0))) out
+    let e : c.write_signed.new.shares ++ drop n (replicate 64 (pos 0)) ≡ signed_shares fund sizes =
+    ap (λ (xs : List ℤ). xs ++ drop n (replicate 64 (pos 0)))
+    (c.write_signed.ensures ∙ ap (λ (z : ℤ). map (signed_as z) c.share_all.new.out) (to_z-of_z w64 fund c.ranges.fund) ∙ ap (map (signed_as fund)) out)
     ∙ signed_all fund sizes n (long ∙ sym (ap length (c.given.view_is ∙ same))) in
     record {
       refusal = c.in_ok-check_fund.ensures.refusal ∙ ap (λ (ws : List ℕ). unshareable ws (g.R.SharingRule.counted rule ws) c.unsigned_abs-size.result) same ∙ ap (unshareable given counted) size;

@@ -22,7 +22,7 @@ shared ws fund left out rest el er eo = rw (el, er, eo)
 pub returns : goal.returns
 returns c =
     let ws : List ℕ = as_given c.args.given.now in
-    let e = c.hand_out.ensures ∙ shared _ c.args.fund _ _ _ c.round_down-left.ensures.left c.write_remainders.ensures c.round_down-left.ensures.floors ∙ ap (λ (counted : List ℕ). largest_remainder_shares counted c.args.fund) c.of-counted.ensures.value in
+    let e = c.hand_out.ensures ∙ shared _ c.args.fund _ _ _ c.round_down-left.ensures.left c.round_down-left.ensures.rest c.round_down-left.ensures.floors ∙ ap (λ (counted : List ℕ). largest_remainder_shares counted c.args.fund) c.of-counted.ensures.value in
     record {
       shares = e;
       served = subst (ServedFirst ws c.args.fund) (sym e) (served_first ws c.args.fund (some c.args.given.now (subst Weights c.given.view_is c.given.invariant)));
