@@ -13,7 +13,7 @@ use Rattle.market.specs.declared.kinds.Side.{Side}
 use Rattle.market.specs.Letters.{letter_of, letter_row, letter_rows, side_of, sides_named, unknown}
 
 -- a letter that names a side is that side's letter, and is known
-named : (letter index : ℕ) (side : Side) → Ok side ≡ side_of letter index → (letter_of side ≡ letter) × (unknown letter ≡ false)
+pub named : (letter index : ℕ) (side : Side) → Ok side ≡ side_of letter index → (letter_of side ≡ letter) × (unknown letter ≡ false)
 named letter index side e = grind (arith, nat_tests)
 
 -- the row of a letter that names a side does not hold
