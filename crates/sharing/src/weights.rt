@@ -53,13 +53,11 @@ impl Counting {
     fn of(weights: &[u64]) -> Counting
         ensures { map (counts_as result) weights.now ≡ as_given weights.now }
     {
-        // a `for` and no `all` or `any`, which take half as long again: of weights of 0 this is asked for each party
-        for weight in weights {
-            if *weight != 0 {
-                return Counting::AsGiven;
-            }
+        // `position` and no `any` or `all`, which over weights of 0 take a third more instructions: this is asked anew for each party
+        match weights.iter().position(|weight| *weight != 0) {
+            Some(_) => Counting::AsGiven,
+            None => Counting::OneEach,
         }
-        Counting::OneEach
     }
 
     /// What a given weight counts.
