@@ -5,7 +5,7 @@ use borrow.Author.Tests.{tests}
 use Rattle.sharing.specs.Counting.{counts_given, ones, as_given_none}
 use Rattle.sharing.proofs.weights.Counting.of.Goals as goal
 
--- weights that are all 0
+-- weights that are all 0 add up to 0
 none : (weights : List ℕ) → ((party : ℕ) → party < length weights → slice_index weights party ≡ 0) → sum weights ≡ 0
 none [] zero = refl
 none (w ∷ weights) zero = omega (arith, sum_by-cons (λ (x : ℕ). x) w weights, zero 0 (omega arith), none weights (λ party l. zero (suc party) (omega arith)))
